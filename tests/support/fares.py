@@ -1,6 +1,6 @@
 """What a fare file may have at most, parts of the sample files, and files made of them."""
 
-from support.running import FARES, answers
+from support.running import FARES, answers, bytes_of
 
 # Two bands of examples/sample.toml.
 BUS_BAND = "{ from = 0, to = 0, day = 525, week = 2470 },"
@@ -27,8 +27,8 @@ def zone_of(station):
 
 
 def quiet():
-    """The fare file of the sessions here."""
-    return open(FARES, "rb").read()
+    """The fare file of RUN, of which no session warns."""
+    return bytes_of(FARES)
 
 
 def an_edition(day, bus):

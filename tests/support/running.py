@@ -1,5 +1,6 @@
 """How the themes run the built program, and what comes of a run."""
 
+import atexit
 import contextlib
 import os
 import re
@@ -32,6 +33,7 @@ def without_warnings(folder):
 
 
 FOLDER = tempfile.TemporaryDirectory()
+atexit.register(FOLDER.cleanup)
 FARES = without_warnings(FOLDER.name)
 RUN = ["run", FARES, LONDON]
 MISSING = "/no/such/file"

@@ -5,10 +5,10 @@ import shutil
 
 from support.fares import an_edition, quiet
 from support.journals import new_folder, with_both
-from support.judging import test
 from support.ledgers import DONE, PAID, copied_ledger, session_over
 from support.running import A_DAY, MISSING, RUN, SEVEN, End, answers, bytes_of, fault, in_lines, run, written
 from support.serving import closed, ended, serving, talk
+from support.theme import Theme
 
 BUS = f"TAP 1 1 7 {SEVEN} 50 BUS"
 LOST = f"in the ledger and not in the journal: {BUS}, on day 19730 at second 25200"
@@ -26,134 +26,226 @@ def differs(*lines, more=""):
 
 def all_files(folder):
     """What each file there has, but for the log of a ledger, which is copied into its file when it is opened."""
-    return {name: bytes_of(os.path.join(folder, name)) for name in sorted(os.listdir(folder)) if not name.endswith(("-wal", "-shm"))}
+    return {
+        name: bytes_of(os.path.join(folder, name))
+        for name in sorted(os.listdir(folder))
+        if not name.endswith(("-wal", "-shm"))
+    }
 
 
-@test
-def what_is_not_settled(folder):
-    """A late tap, credit or account of a week that was closed is told, and the close that settles it, until that is done."""
-    def later(*lines):
-        """More lines of the journal, without a ledger."""
-        return run([*RUN, "--journal", os.path.join(folder, "journal")], in_lines(lines))
+class Audits(Theme):
+    def test_what_is_not_settled(self):
+        """A late tap, credit or account of a week that was closed is told, and the close that settles it, until that is
+        done."""
+        def later(*lines):
+            """More lines of the journal, without a ledger."""
+            return run([*RUN, "--journal", os.path.join(self.folder, "journal")], in_lines(lines))
 
-    yield "a first close", session_over(folder, [BUS, "CLOSE 19730"]), answers(b"OK 19730 175 175\n" + PAID + DONE)
-    yield "settled", audit(folder), answers(b"")
-    yield "a late tap", later(f"TAP 1 2 7 {SEVEN + 7200} 50 BUS"), answers(b"OK 19730 350 350\n")
-    yield "not settled", audit(folder), answers(b"UNSETTLED 7 19730 19730 350 175\nCLOSE 19730\n")
-    yield "an account that was not posted", later(f"TAP 1 1 8 {SEVEN} 50 BUS"), answers(b"OK 19730 175 175\n")
-    yield "a tap of a day that is not closed", later(f"TAP 1 3 7 {SEVEN + A_DAY} 50 BUS"), answers(b"OK 19731 175 525\n")
-    yield "and of a week that is not closed", later(f"TAP 1 4 7 {SEVEN + 7 * A_DAY} 50 BUS"), answers(b"OK 19737 175 175\n")
-    before = all_files(folder)
-    told = audit(folder)
-    yield "two are not settled", told, answers(b"UNSETTLED 7 19730 19730 350 175\nUNSETTLED 8 19730 19730 175 0\nCLOSE 19730\n")
-    yield "nothing is changed", answers(repr(all_files(folder)).encode()), answers(repr(before).encode())
-    closes = [line for line in told.output.decode().splitlines() if line.startswith("CLOSE")]
-    yield "its closes", session_over(folder, closes), answers(
-        b"PAY 7 19730 19730 4 350 175 4=175\nPAY 8 19730 19730 1 175 175 4=175\nDONE 19730 2\n")
-    yield "settled by them", audit(folder), answers(b"")
-    # A credit of a week that is closed through Sunday, and one of the week after, which is closed through its Tuesday.
-    yield "two more closes", session_over(folder, ["CLOSE 19736", "CLOSE 19738"]), answers(
-        b"PAY 7 19730 19736 4 525 175 4=175\nPAY 8 19730 19736 1 175 0\nDONE 19736 2\n"
-        b"PAY 7 19737 19738 4 175 175 4=175\nDONE 19738 1\n")
-    yield "late credits", later("FIX 1 1 7 CREDIT 19730 100", "FIX 1 2 7 CREDIT 19738 200", "FIX 1 1 8 CREDIT 19737 1"), answers(
-        b"OK 19730 350 525\nOK 19738 0 175\nOK 19737 0 0\n")
-    yield "what they are", audit(folder), answers(
-        b"UNSETTLED 7 19730 19736 425 525\nUNSETTLED 7 19737 19738 0 175\nCLOSE 19736\nCLOSE 19738\n")
-    yield "a voided tap", later("FIX 1 3 7 VOID 1 4"), answers(b"OK 19737 0 0\n")
-    yield "of the tap nothing is due", audit(folder), answers(
-        b"UNSETTLED 7 19730 19736 425 525\nUNSETTLED 7 19737 19738 0 175\nCLOSE 19736\nCLOSE 19738\n")
-    yield "without the ledger", audit(folder, ledger=None), answers(b"")
+        self.check(
+            "a first close",
+            session_over(self.folder, [BUS, "CLOSE 19730"]),
+            answers(b"OK 19730 175 175\n" + PAID + DONE),
+        )
+        self.check("settled", audit(self.folder), answers(b""))
+        self.check("a late tap", later(f"TAP 1 2 7 {SEVEN + 7200} 50 BUS"), answers(b"OK 19730 350 350\n"))
+        self.check("not settled", audit(self.folder), answers(b"UNSETTLED 7 19730 19730 350 175\nCLOSE 19730\n"))
+        self.check("an account that was not posted", later(f"TAP 1 1 8 {SEVEN} 50 BUS"), answers(b"OK 19730 175 175\n"))
+        self.check(
+            "a tap of a day that is not closed",
+            later(f"TAP 1 3 7 {SEVEN + A_DAY} 50 BUS"),
+            answers(b"OK 19731 175 525\n"),
+        )
+        self.check(
+            "and of a week that is not closed",
+            later(f"TAP 1 4 7 {SEVEN + 7 * A_DAY} 50 BUS"),
+            answers(b"OK 19737 175 175\n"),
+        )
+        before = all_files(self.folder)
+        told = audit(self.folder)
+        self.check(
+            "two are not settled",
+            told,
+            answers(b"UNSETTLED 7 19730 19730 350 175\nUNSETTLED 8 19730 19730 175 0\nCLOSE 19730\n"),
+        )
+        self.check("nothing is changed", answers(repr(all_files(self.folder)).encode()), answers(repr(before).encode()))
+        closes = [line for line in told.output.decode().splitlines() if line.startswith("CLOSE")]
+        self.check(
+            "its closes",
+            session_over(self.folder, closes),
+            answers(b"PAY 7 19730 19730 4 350 175 4=175\nPAY 8 19730 19730 1 175 175 4=175\nDONE 19730 2\n"),
+        )
+        self.check("settled by them", audit(self.folder), answers(b""))
+        # A credit of a week that is closed through Sunday, and one of the week after, which is closed through its
+        # Tuesday.
+        self.check(
+            "two more closes",
+            session_over(self.folder, ["CLOSE 19736", "CLOSE 19738"]),
+            answers(
+                b"PAY 7 19730 19736 4 525 175 4=175\nPAY 8 19730 19736 1 175 0\nDONE 19736 2\n"
+                b"PAY 7 19737 19738 4 175 175 4=175\nDONE 19738 1\n"
+            ),
+        )
+        self.check(
+            "late credits",
+            later("FIX 1 1 7 CREDIT 19730 100", "FIX 1 2 7 CREDIT 19738 200", "FIX 1 1 8 CREDIT 19737 1"),
+            answers(b"OK 19730 350 525\nOK 19738 0 175\nOK 19737 0 0\n"),
+        )
+        self.check(
+            "what they are",
+            audit(self.folder),
+            answers(b"UNSETTLED 7 19730 19736 425 525\nUNSETTLED 7 19737 19738 0 175\nCLOSE 19736\nCLOSE 19738\n"),
+        )
+        self.check("a voided tap", later("FIX 1 3 7 VOID 1 4"), answers(b"OK 19737 0 0\n"))
+        self.check(
+            "of the tap nothing is due",
+            audit(self.folder),
+            answers(b"UNSETTLED 7 19730 19736 425 525\nUNSETTLED 7 19737 19738 0 175\nCLOSE 19736\nCLOSE 19738\n"),
+        )
+        self.check("without the ledger", audit(self.folder, ledger=None), answers(b""))
 
+    def test_what_differs(self):
+        """Each account that differs is told, and what stands beside the journal; the status tells it."""
+        journal = os.path.join(self.folder, "journal")
+        lines = [BUS, f"TAP 1 1 8 {SEVEN} 50 BUS", f"TAP 1 2 8 {SEVEN + 7200} 50 BUS", "CLOSE 19730"]
+        paid = PAID + b"PAY 8 19730 19730 2 350 350 4=350\nDONE 19730 2\n"
+        self.check(
+            "a first close",
+            session_over(self.folder, lines),
+            answers(b"OK 19730 175 175\nOK 19730 175 175\nOK 19730 350 350\n" + paid),
+        )
+        first = copied_ledger(self.folder, "first")
+        self.check(
+            "a late tap",
+            session_over(self.folder, [f"TAP 1 2 7 {SEVEN + 7200} 50 BUS", "CLOSE 19730"]),
+            answers(
+                b"OK 19730 350 350\nPAY 7 19730 19730 2 350 175 4=175\n"
+                b"PAY 8 19730 19730 2 350 350 4=350\nDONE 19730 2\n"
+            ),
+        )
+        self.check(
+            "an older ledger",
+            audit(self.folder, ledger=first),
+            differs(
+                "another or an older ledger than the journal's: no posting of account 7 for week 19730 through 19730",
+                more="UNSETTLED 7 19730 19730 350 175\nCLOSE 19730\n",
+            ),
+        )
+        whole = bytes_of(journal)
+        dearer = written(self.folder, "dearer.toml", quiet().replace(b"bus = 175", b"bus = 176"))
+        self.check(
+            "other fares",
+            audit(self.folder, fares=dearer),
+            differs(
+                "other fares than the journal's on day 4: rules.bus; account 7 travelled on day 19730",
+                "account 7 was posted otherwise for week 19730 through 19730",
+                "account 8 was posted otherwise for week 19730 through 19730",
+                more="UNSETTLED 7 19730 19730 352 350\nUNSETTLED 8 19730 19730 352 350\nCLOSE 19730\n",
+            ),
+        )
+        edition = written(self.folder, "edition.toml", an_edition(19737, 180))
+        self.check("an edition of next week", audit(self.folder, fares=edition), answers(b""))
+        # Lines that are lost of both accounts; of account 8 all.
+        written(
+            self.folder,
+            "journal",
+            b"".join(line + b"\n" for line in whole.splitlines() if line.startswith(b"TAP 1 2 7")),
+        )
+        self.check(
+            "lines that are lost",
+            audit(self.folder),
+            differs(
+                LOST,
+                f"in the ledger and not in the journal: TAP 1 1 8 {SEVEN} 50 BUS, on day 19730 at second 25200",
+                more="UNSETTLED 7 19730 19730 175 350\nCLOSE 19730\n",
+            ),
+        )
+        self.check("lines that are lost, without the ledger", audit(self.folder, ledger=None), answers(b""))
+        written(self.folder, "journal", whole + f"TAP 1 1 7 {SEVEN + 1} 50 BUS\n".encode())
+        self.check("a line that is not accepted", audit(self.folder), fault(f"{journal} line 5: 20 Conflict"))
+        written(self.folder, "journal", whole)
+        self.check("no such ledger", audit(self.folder, ledger="none"), fault("no such ledger"))
+        self.check("it is not made", answers(bytes_of(os.path.join(self.folder, "none"))), answers(None))
+        self.check("no such journal", audit(self.folder, journal="none"), fault("cannot use journal"))
+        self.check("no such fare file", audit(self.folder, fares=MISSING), fault("cannot read fares"))
+        written(self.folder, "journal.posted", b"7\n")
+        self.check("what is no note", audit(self.folder), fault("cannot read the journal's last posting"))
 
-@test
-def what_differs(folder):
-    """Each account that differs is told, and what stands beside the journal; the status tells it."""
-    journal = os.path.join(folder, "journal")
-    lines = [BUS, f"TAP 1 1 8 {SEVEN} 50 BUS", f"TAP 1 2 8 {SEVEN + 7200} 50 BUS", "CLOSE 19730"]
-    paid = PAID + b"PAY 8 19730 19730 2 350 350 4=350\nDONE 19730 2\n"
-    yield "a first close", session_over(folder, lines), answers(b"OK 19730 175 175\nOK 19730 175 175\nOK 19730 350 350\n" + paid)
-    first = copied_ledger(folder, "first")
-    yield "a late tap", session_over(folder, [f"TAP 1 2 7 {SEVEN + 7200} 50 BUS", "CLOSE 19730"]), answers(
-        b"OK 19730 350 350\nPAY 7 19730 19730 2 350 175 4=175\nPAY 8 19730 19730 2 350 350 4=350\nDONE 19730 2\n")
-    yield "an older ledger", audit(folder, ledger=first), differs(
-        "another or an older ledger than the journal's: no posting of account 7 for week 19730 through 19730",
-        more="UNSETTLED 7 19730 19730 350 175\nCLOSE 19730\n")
-    whole = bytes_of(journal)
-    dearer = written(folder, "dearer.toml", quiet().replace(b"bus = 175", b"bus = 176"))
-    yield "other fares", audit(folder, fares=dearer), differs(
-        "other fares than the journal's on day 4: rules.bus; account 7 travelled on day 19730",
-        "account 7 was posted otherwise for week 19730 through 19730", "account 8 was posted otherwise for week 19730 through 19730",
-        more="UNSETTLED 7 19730 19730 352 350\nUNSETTLED 8 19730 19730 352 350\nCLOSE 19730\n")
-    edition = written(folder, "edition.toml", an_edition(19737, 180))
-    yield "an edition of next week", audit(folder, fares=edition), answers(b"")
-    # Lines that are lost of both accounts; of account 8 all.
-    written(folder, "journal", b"".join(line + b"\n" for line in whole.splitlines() if line.startswith(b"TAP 1 2 7")))
-    yield "lines that are lost", audit(folder), differs(
-        LOST, f"in the ledger and not in the journal: TAP 1 1 8 {SEVEN} 50 BUS, on day 19730 at second 25200",
-        more="UNSETTLED 7 19730 19730 175 350\nCLOSE 19730\n")
-    yield "lines that are lost, without the ledger", audit(folder, ledger=None), answers(b"")
-    written(folder, "journal", whole + f"TAP 1 1 7 {SEVEN + 1} 50 BUS\n".encode())
-    yield "a line that is not accepted", audit(folder), fault(f"{journal} line 5: 20 Conflict")
-    written(folder, "journal", whole)
-    yield "no such ledger", audit(folder, ledger="none"), fault("no such ledger")
-    yield "it is not made", answers(bytes_of(os.path.join(folder, "none"))), answers(None)
-    yield "no such journal", audit(folder, journal="none"), fault("cannot use journal")
-    yield "no such fare file", audit(folder, fares=MISSING), fault("cannot read fares")
-    written(folder, "journal.posted", b"7\n")
-    yield "what is no note", audit(folder), fault("cannot read the journal's last posting")
+    def test_of_services(self):
+        """The journals of a service are those of its folder; one may be missing or empty, and a folder without any is
+        none of a service."""
+        journals, ledger = new_folder(self.folder), os.path.join(self.folder, "ledger")
+        more = with_both(journals, ledger)
+        with serving(1, 2, 1, more=more) as (ran, port, said):
+            talk(port, in_lines([BUS, f"TAP 1 1 8 {SEVEN} 50 BUS", "QUIT"]))
+            self.check(
+                "its close",
+                ended(ran, said),
+                closed(port, 1, PAID + b"PAY 8 19730 19730 1 175 175 4=175\nDONE 19730 2\n"),
+            )
+        before = all_files(journals)
+        self.check("settled", audit(self.folder, journal="journals"), answers(b""))
+        of_seven = next(name for name, text in before.items() if text == f"{BUS}\n".encode())
+        written(journals, of_seven, f"{BUS}\nTAP 1 2 7 {SEVEN + 7200} 50 BUS\n".encode())
+        self.check(
+            "a late tap",
+            audit(self.folder, journal="journals"),
+            answers(b"UNSETTLED 7 19730 19730 350 175\nCLOSE 19730\n"),
+        )
+        os.remove(os.path.join(journals, of_seven))
+        self.check("a journal that is lost", audit(self.folder, journal="journals"), differs(LOST))
+        self.check("it is not made", answers(bytes_of(os.path.join(journals, of_seven))), answers(None))
+        written(journals, of_seven, f"{BUS}\nTAP 1 1 7 {SEVEN + 1} 50 BUS\n".encode())
+        self.check(
+            "a line that is not accepted",
+            audit(self.folder, journal="journals"),
+            fault(f"{journals}/{of_seven} line 2: 20 Conflict"),
+        )
+        new_folder(self.folder, "empty")
+        for name, more in (("an empty folder", None), ("an empty folder and a ledger", "ledger")):
+            self.check(name, audit(self.folder, ledger=more, journal="empty"), fault("cannot use journal"))
+        written(self.folder, os.path.join("empty", "15.lines"), b"")
+        self.check("a folder with one empty journal", audit(self.folder, ledger=None, journal="empty"), answers(b""))
 
-
-@test
-def of_services(folder):
-    """The journals of a service are those of its folder; one may be missing or empty, and a folder without any is none of a service."""
-    journals, ledger = new_folder(folder), os.path.join(folder, "ledger")
-    more = with_both(journals, ledger)
-    with serving(1, 2, 1, more=more) as (ran, port, said):
-        talk(port, in_lines([BUS, f"TAP 1 1 8 {SEVEN} 50 BUS", "QUIT"]))
-        yield "its close", ended(ran, said), closed(port, 1, PAID + b"PAY 8 19730 19730 1 175 175 4=175\nDONE 19730 2\n")
-    before = all_files(journals)
-    yield "settled", audit(folder, journal="journals"), answers(b"")
-    of_seven = next(name for name, text in before.items() if text == f"{BUS}\n".encode())
-    written(journals, of_seven, f"{BUS}\nTAP 1 2 7 {SEVEN + 7200} 50 BUS\n".encode())
-    yield "a late tap", audit(folder, journal="journals"), answers(b"UNSETTLED 7 19730 19730 350 175\nCLOSE 19730\n")
-    os.remove(os.path.join(journals, of_seven))
-    yield "a journal that is lost", audit(folder, journal="journals"), differs(LOST)
-    yield "it is not made", answers(bytes_of(os.path.join(journals, of_seven))), answers(None)
-    written(journals, of_seven, f"{BUS}\nTAP 1 1 7 {SEVEN + 1} 50 BUS\n".encode())
-    yield "a line that is not accepted", audit(folder, journal="journals"), fault(f"{journals}/{of_seven} line 2: 20 Conflict")
-    new_folder(folder, "empty")
-    for name, more in (("an empty folder", None), ("an empty folder and a ledger", "ledger")):
-        yield name, audit(folder, ledger=more, journal="empty"), fault("cannot use journal")
-    written(folder, os.path.join("empty", "15.lines"), b"")
-    yield "a folder with one empty journal", audit(folder, ledger=None, journal="empty"), answers(b"")
-
-
-@test
-def a_lost_journal(folder):
-    """The lines of all that a ledger archives; as a journal they are taken with it, and the next close changes nothing."""
-    lines = [
-        f"TAP 2 1 8 {SEVEN} 50 BUS", BUS, f"TAP 1 2 7 {SEVEN + 7200} 50 BUS", f"FIX 3 1 7 FILL {SEVEN + 3600} 50 BUS", "FIX 3 2 7 VOID 1 2",
-        "FIX 3 3 7 CREDIT 19730 10", "FIX 3 4 7 DROP 3 3", "FIX 3 1 9 VOID 1 1",
-    ]
-    came = session_over(folder, [*lines, "CLOSE 19730"])
-    posted = came.output[came.output.index(b"PAY"):]
-    yield "the close", came._replace(output=posted.split(b" 19730 ")[0]), answers(b"PAY 7")
-    ledger = os.path.join(folder, "ledger")
-    # By account, of each its taps and then its corrections, by their numbers. Account 9 travelled nowhere, so it was not closed.
-    wanted = in_lines([BUS, f"TAP 1 2 7 {SEVEN + 7200} 50 BUS", f"FIX 3 1 7 FILL {SEVEN + 3600} 50 BUS", "FIX 3 2 7 VOID 1 2",
-        "FIX 3 3 7 CREDIT 19730 10", "FIX 3 4 7 DROP 3 3", f"TAP 2 1 8 {SEVEN} 50 BUS"])
-    given = run(["rebuild", RUN[1], ledger])
-    yield "its lines", given, answers(wanted)
-    later = f"TAP 1 9 7 {SEVEN + 90_000} 50 BUS"
-    yield "a tap that is not closed", run([*RUN, "--journal", os.path.join(folder, "journal")], in_lines([later]))._replace(output=b""), answers(b"")
-    yield "is not there", run(["rebuild", RUN[1], ledger]), answers(wanted)
-    for name in ("journal", "journal.fares", "journal.posted"):
-        os.remove(os.path.join(folder, name))
-    yield "as a journal it is taken", session_over(folder, [], journal="again"), fault("ledger without its journal")
-    written(folder, "again", given.output)
-    yield "the close once more", session_over(folder, ["CLOSE 19730"], journal="again"), answers(posted)
-    yield "and belongs to the ledger", audit(folder, journal="again"), answers(b"")
-    yield "no such ledger", run(["rebuild", RUN[1], os.path.join(folder, "none")]), fault("no such ledger")
-    yield "it is not made", answers(bytes_of(os.path.join(folder, "none"))), answers(None)
-    shutil.copyfile(os.path.join(folder, "again"), os.path.join(folder, "text"))
-    yield "no ledger", run(["rebuild", RUN[1], os.path.join(folder, "text")]), fault("40 NotALedger")
+    def test_a_lost_journal(self):
+        """The lines of all that a ledger archives; as a journal they are taken with it, and the next close changes
+        nothing."""
+        lines = [
+            f"TAP 2 1 8 {SEVEN} 50 BUS", BUS, f"TAP 1 2 7 {SEVEN + 7200} 50 BUS",
+            f"FIX 3 1 7 FILL {SEVEN + 3600} 50 BUS", "FIX 3 2 7 VOID 1 2",
+            "FIX 3 3 7 CREDIT 19730 10", "FIX 3 4 7 DROP 3 3", "FIX 3 1 9 VOID 1 1",
+        ]
+        came = session_over(self.folder, [*lines, "CLOSE 19730"])
+        posted = came.output[came.output.index(b"PAY"):]
+        self.check("the close", came._replace(output=posted.split(b" 19730 ")[0]), answers(b"PAY 7"))
+        ledger = os.path.join(self.folder, "ledger")
+        # By account, of each its taps and then its corrections, by their numbers. Account 9 travelled nowhere, so it
+        # was not closed.
+        wanted = in_lines([
+            BUS, f"TAP 1 2 7 {SEVEN + 7200} 50 BUS", f"FIX 3 1 7 FILL {SEVEN + 3600} 50 BUS", "FIX 3 2 7 VOID 1 2",
+            "FIX 3 3 7 CREDIT 19730 10", "FIX 3 4 7 DROP 3 3", f"TAP 2 1 8 {SEVEN} 50 BUS",
+        ])
+        given = run(["rebuild", RUN[1], ledger])
+        self.check("its lines", given, answers(wanted))
+        later = f"TAP 1 9 7 {SEVEN + 90_000} 50 BUS"
+        self.check(
+            "a tap that is not closed",
+            run([*RUN, "--journal", os.path.join(self.folder, "journal")], in_lines([later]))._replace(output=b""),
+            answers(b""),
+        )
+        self.check("is not there", run(["rebuild", RUN[1], ledger]), answers(wanted))
+        for name in ("journal", "journal.fares", "journal.posted"):
+            os.remove(os.path.join(self.folder, name))
+        self.check(
+            "as a journal it is taken",
+            session_over(self.folder, [], journal="again"),
+            fault("ledger without its journal"),
+        )
+        written(self.folder, "again", given.output)
+        self.check("the close once more", session_over(self.folder, ["CLOSE 19730"], journal="again"), answers(posted))
+        self.check("and belongs to the ledger", audit(self.folder, journal="again"), answers(b""))
+        self.check(
+            "no such ledger", run(["rebuild", RUN[1], os.path.join(self.folder, "none")]), fault("no such ledger")
+        )
+        self.check("it is not made", answers(bytes_of(os.path.join(self.folder, "none"))), answers(None))
+        shutil.copyfile(os.path.join(self.folder, "again"), os.path.join(self.folder, "text"))
+        self.check("no ledger", run(["rebuild", RUN[1], os.path.join(self.folder, "text")]), fault("40 NotALedger"))

@@ -1,12 +1,13 @@
 """Prices of days and weeks, up to their caps."""
 
 from support.examples import told_replies
-from support.judging import test
 from support.repository import RUN_SAMPLE
 from support.running import A_DAY, RUN, answers, play, read, run
 from support.sessions import BUS_DAY, BUS_WEEK, TRAIN_AND_BUS_DAY, TRAIN_AND_BUS_WEEK, ZONE_DAY, capped
+from support.theme import Theme
 
-# Taps of account 7 with examples/sample.toml, each with the prices of its day and its week: a leg that the bus band leaves outside.
+# Taps of account 7 with examples/sample.toml, each with the prices of its day and its week: a leg that the bus band
+# leaves outside.
 LEG_AND_BUS_DAY = (
     (1704697200, 10, "IN", 860, 860),  # 07:00
     (1704698400, 12, "OUT", 340, 340),
@@ -31,8 +32,8 @@ LATE = (
     (1704700200, 10, "OUT", 890, 890),  # 07:50: 525 and 680 are more than the band of zones 1 to 2
     (1704702600, 50, "BUS", 890, 890),  # 08:30
 )
-# Five days of three legs within zones 1 to 2, each day capped at 890, with examples/sample.toml: the second of the day, the place,
-# the kind and the day's price. Then a Saturday and a Sunday, with the week's price.
+# Five days of three legs within zones 1 to 2, each day capped at 890, with examples/sample.toml: the second of the day,
+# the place, the kind and the day's price. Then a Saturday and a Sunday, with the week's price.
 ZONE_WEEK_DAY = (
     (25_200, 10, "IN", 860), (26_400, 12, "OUT", 340),
     (27_000, 12, "IN", 1200), (28_200, 10, "OUT", 680),
@@ -51,34 +52,6 @@ ZONE_WEEK = [
     (1705233600, 10, "IN", 860, 5510),
 ]
 
-
-@test
-def capped_days_and_weeks(_):
-    """Prices up to the caps, tap by tap."""
-    for name, rows in (
-        ("a day by bus", BUS_DAY),
-        ("a day by train", ZONE_DAY),
-        ("a leg and four boardings", LEG_AND_BUS_DAY),
-        ("a day by train and bus, and a lone tap", TRAIN_BUS_AND_LONE),
-        ("a week by bus", BUS_WEEK),
-        ("a week of capped days by train", ZONE_WEEK),
-        ("a week of capped days by train and bus", TRAIN_AND_BUS_WEEK),
-        ("late taps", LATE),
-    ):
-        yield name, *play(RUN_SAMPLE, list(capped(rows)))
-
-
-@test
-def examples_with_caps(_):
-    """The sessions of the examples, with a fare file that has caps."""
-    # Where no cap is reached the prices are those without caps.
-    told = told_replies()
-    for name in ("hopper.txt", "interchanges.txt", "late-tap.txt", "rail-edges.txt", "refusals.txt"):
-        yield f"{name} with caps", run(RUN_SAMPLE, read(name)), answers(told[name])
-    # The last leg brings this day to 1230, and the band of zones 1 to 3 caps it.
-    yield "rail-day.txt with caps", run(RUN_SAMPLE, read("rail-day.txt")), answers(told["rail-day.txt"].replace(b"1230", b"1050"))
-
-
 # A Sunday, the Monday, the Sunday after it and the next Monday, by bus; and lone taps by train.
 OVER_WEEKS = (
     ("TAP 1 1 7 1704610800 50 BUS", "OK 19729 175 175"),
@@ -91,7 +64,34 @@ OVER_WEEKS = (
 )
 
 
-@test
-def weeks_without_caps(_):
-    """A week's price is the sum of its own days."""
-    yield "over weeks", *play(RUN, OVER_WEEKS)
+class Caps(Theme):
+    def test_capped_days_and_weeks(self):
+        """Prices up to the caps, tap by tap."""
+        for name, rows in (
+            ("a day by bus", BUS_DAY),
+            ("a day by train", ZONE_DAY),
+            ("a leg and four boardings", LEG_AND_BUS_DAY),
+            ("a day by train and bus, and a lone tap", TRAIN_BUS_AND_LONE),
+            ("a week by bus", BUS_WEEK),
+            ("a week of capped days by train", ZONE_WEEK),
+            ("a week of capped days by train and bus", TRAIN_AND_BUS_WEEK),
+            ("late taps", LATE),
+        ):
+            self.check(name, *play(RUN_SAMPLE, list(capped(rows))))
+
+    def test_examples_with_caps(self):
+        """The sessions of the examples, with a fare file that has caps."""
+        # Where no cap is reached the prices are those without caps.
+        told = told_replies()
+        for name in ("hopper.txt", "interchanges.txt", "late-tap.txt", "rail-edges.txt", "refusals.txt"):
+            self.check(f"{name} with caps", run(RUN_SAMPLE, read(name)), answers(told[name]))
+        # The last leg brings this day to 1230, and the band of zones 1 to 3 caps it.
+        self.check(
+            "rail-day.txt with caps",
+            run(RUN_SAMPLE, read("rail-day.txt")),
+            answers(told["rail-day.txt"].replace(b"1230", b"1050")),
+        )
+
+    def test_weeks_without_caps(self):
+        """A week's price is the sum of its own days."""
+        self.check("over weeks", *play(RUN, OVER_WEEKS))

@@ -1,12 +1,12 @@
 """Days and prices by the clock of a zone, over changes of the clocks too; and texts that are no rule for a zone."""
 
 from support.clocks import BY_SECONDS, FAR_EAST, FAR_WEST, INDIA, MEASURED, PARIS, SUMMER_DAY, SYDNEY
-from support.judging import test
 from support.repository import LONDON
 from support.running import FARES, RUN, boardings, fault, play, run
+from support.theme import Theme
 
-# A leg from 10 to 12 that ends in the second in which it begins, so that both of its taps are of one service day, costs 340
-# pence peak and 280 off-peak. Each row is the second, and the service day and the fare in three zones.
+# A leg from 10 to 12 that ends in the second in which it begins, so that both of its taps are of one service day, costs
+# 340 pence peak and 280 off-peak. Each row is the second, and the service day and the fare in three zones.
 THREE_ZONES = (LONDON, "UTC0", "EST5")
 PEAK, OFF = 340, 280
 THREE_CLOCKS = (
@@ -31,7 +31,8 @@ THREE_CLOCKS = (
     (1720461600, (19912, OFF), (19912, PEAK), (19912, OFF)),
     (1720472399, (19912, OFF), (19912, OFF), (19912, OFF)),  # 15:59:59 in EST5
     (1720472400, (19912, OFF), (19912, OFF), (19912, PEAK)),
-    # London's clocks go forward on Sunday 2024-03-31, day 19813, at 01:00 by UTC. So Saturday's service day has 23 hours.
+    # London's clocks go forward on Sunday 2024-03-31, day 19813, at 01:00 by UTC. So Saturday's service day has 23
+    # hours.
     (1711772999, (19811, OFF), (19811, OFF), (19811, OFF)),  # Saturday 04:29:59 in London and by UTC
     (1711773000, (19812, OFF), (19812, OFF), (19811, OFF)),
     (1711855799, (19812, OFF), (19812, OFF), (19812, OFF)),  # Sunday 04:29:59 in London, 03:29:59 by UTC
@@ -121,23 +122,8 @@ def legs():
     yield from OTHER_CLOCKS
 
 
-@test
-def days_and_prices_by_the_clock(_):
-    """A leg at each of these seconds, in the zone."""
-    for zone, utc, day, fare in legs():
-        taps = (f"TAP 1 1 7 {utc} 10 IN", f"OK {day} 860 860"), (f"TAP 1 2 7 {utc} 12 OUT", f"OK {day} {fare} {fare}")
-        yield f"a leg at {utc} in {zone}", *play(["run", FARES, zone], taps)
-
-
-@test
-def the_zone_is_the_word(_):
-    """A day in summer time, whatever the system has for a zone."""
-    yield "a summer day", *play(RUN, SUMMER_DAY)
-    for around in ({}, {"TZ": "EST5", "LC_ALL": "de_DE.UTF-8"}, {"TZ": "UTC0"}):
-        yield f"a summer day with {around} around", *play(RUN, SUMMER_DAY, env=around)
-
-
-# A day goes on by the rules where the clocks go back over 04:30 in it. Its journeys are shown in the order of their instants.
+# A day goes on by the rules where the clocks go back over 04:30 in it. Its journeys are shown in the order of their
+# instants.
 BACK_OVER_THE_EDGE = (
     ("TAP 1 1 7 1704684600 50 BUS", "OK 19730 175 175"),  # Monday 04:30:00
     ("TAP 1 2 7 1704688200 50 BUS", "OK 19730 175 175"),  # 04:30:00 an hour later
@@ -146,30 +132,18 @@ BACK_OVER_THE_EDGE = (
     ("SHOW 7 19730", "SHOW 7 19730 2 175\nJNY BUS 50 0 1704684600 175\nJNY BUS 50 0 1704688200 0"),
 )
 
-
-@test
-def changes_of_the_clocks(_):
-    """What lasts over a change of the clocks."""
-    yield "times over changes of the clocks", *play(RUN, MEASURED)
-    yield "clocks that go back over 04:30", *play(["run", FARES, BACK_EARLY], BACK_OVER_THE_EDGE)
-
-
 # The ends of time in the zones that are farthest from UTC.
-FAR_ZONES = (("XXX24:59:59", 604800, 5), ("XXX24:59:59", 4102444799, 47480), ("XXX-24:59:59", 604800, 7), ("XXX-24:59:59", 4102444799, 47482))
-
-
-@test
-def ends_of_time(_):
-    """The first and the last instant, far from UTC."""
-    for zone, utc, day in FAR_ZONES:
-        yield f"{utc} in {zone}", *play(["run", FARES, zone], [(f"TAP 1 1 7 {utc} 50 BUS", f"OK {day} 175 175")])
-
+FAR_ZONES = (
+    ("XXX24:59:59", 604800, 5), ("XXX24:59:59", 4102444799, 47480), ("XXX-24:59:59", 604800, 7),
+    ("XXX-24:59:59", 4102444799, 47482),
+)
 
 BAD_ZONES = (
     # No rules.
     "", " ", "-", "0", "UTC", "London", "Europe/London", "Europe/Z\u00fcrich", "no zone",
     # More than a rule, and names that are too short or do not end.
-    "UTC0 ", " UTC0", "UTC0\n", "UTC0,", "UTC0x", f"{LONDON},", f"{LONDON} ", f"{LONDON},{LONDON}", "AB0", "<AB>0", "<UTC0",
+    "UTC0 ", " UTC0", "UTC0\n", "UTC0,", "UTC0x", f"{LONDON},", f"{LONDON} ", f"{LONDON},{LONDON}", "AB0", "<AB>0",
+    "<UTC0",
     # Hours, minutes and seconds out of range.
     "GMT25", "GMT0:60", "GMT0:0:60",
     # Summer time without both of its dates.
@@ -180,10 +154,40 @@ BAD_ZONES = (
 )
 
 
-@test
-def refused_zones(_):
-    """Texts that are no rule for a zone."""
-    lines, _ = boardings(2)
-    for zone in BAD_ZONES:
-        yield f"the zone {zone!r}", run(["run", FARES, zone], lines), fault("bad zone")
-        yield f"a statement in the zone {zone!r}", run(["statement", FARES, zone, "1", "19730"], lines), fault("bad zone")
+class Clocks(Theme):
+    def test_days_and_prices_by_the_clock(self):
+        """A leg at each of these seconds, in the zone."""
+        for zone, utc, day, fare in legs():
+            taps = (f"TAP 1 1 7 {utc} 10 IN", f"OK {day} 860 860"), (
+                f"TAP 1 2 7 {utc} 12 OUT", f"OK {day} {fare} {fare}"
+            )
+            self.check(f"a leg at {utc} in {zone}", *play(["run", FARES, zone], taps))
+
+    def test_the_zone_is_the_word(self):
+        """A day in summer time, whatever the system has for a zone."""
+        self.check("a summer day", *play(RUN, SUMMER_DAY))
+        for around in ({}, {"TZ": "EST5", "LC_ALL": "de_DE.UTF-8"}, {"TZ": "UTC0"}):
+            self.check(f"a summer day with {around} around", *play(RUN, SUMMER_DAY, env=around))
+
+    def test_changes_of_the_clocks(self):
+        """What lasts over a change of the clocks."""
+        self.check("times over changes of the clocks", *play(RUN, MEASURED))
+        self.check("clocks that go back over 04:30", *play(["run", FARES, BACK_EARLY], BACK_OVER_THE_EDGE))
+
+    def test_ends_of_time(self):
+        """The first and the last instant, far from UTC."""
+        for zone, utc, day in FAR_ZONES:
+            self.check(
+                f"{utc} in {zone}", *play(["run", FARES, zone], [(f"TAP 1 1 7 {utc} 50 BUS", f"OK {day} 175 175")])
+            )
+
+    def test_refused_zones(self):
+        """Texts that are no rule for a zone."""
+        lines, _ = boardings(2)
+        for zone in BAD_ZONES:
+            self.check(f"the zone {zone!r}", run(["run", FARES, zone], lines), fault("bad zone"))
+            self.check(
+                f"a statement in the zone {zone!r}",
+                run(["statement", FARES, zone, "1", "19730"], lines),
+                fault("bad zone"),
+            )

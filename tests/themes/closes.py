@@ -1,11 +1,12 @@
 """What closes post and give back, and what they refuse, by hand."""
 
-from support.judging import test
 from support.repository import RUN_SAMPLE
 from support.running import RUN, play
 from support.sessions import BUS_WEEK, ZONE_DAY, capped
+from support.theme import Theme
 
-# Closes, with examples/sample.toml. An In alone is posted at the maximum fare; its Out comes late, and the rest is given back.
+# Closes, with examples/sample.toml. An In alone is posted at the maximum fare; its Out comes late, and the rest is
+# given back.
 REFUNDED = (
     ("TAP 1 1 7 1704697200 10 IN", "OK 19730 860 860"),
     ("CLOSE 19730", "PAY 7 19730 19730 1 860 860 1=860\nDONE 19730 1"),
@@ -90,12 +91,16 @@ SHARES_CLOSED = (
     ("TAP 1 7 7 1704708000 14 IN", "OK 19730 1750 1750"),
     ("CLOSE 19730", "PAY 7 19730 19730 7 1750 860 1=39 2=20 3=801\nDONE 19730 1"),  # 632 - 593, 317 - 297
     ("TAP 1 8 7 1704708600 13 OUT", "OK 19730 1050 1050"),
-    ("CLOSE 19730", "PAY 7 19730 19730 8 1050 -700 1=-37 2=-20 3=-643\nDONE 19730 1"),  # 595 - 632, 297 - 317, 158 - 801
+    # 595 - 632, 297 - 317, 158 - 801
+    ("CLOSE 19730", "PAY 7 19730 19730 8 1050 -700 1=-37 2=-20 3=-643\nDONE 19730 1"),
     ("DUE 7 19730", "DUE 7 19730 19730 8 1050 1=595 2=297 3=158"),
 )
 # After three boardings a day from Monday to Friday: the days of QUOTED_WEEK, of which Friday is capped with the week.
 WEEK_CLOSED = (
-    *((f"CLOSE {day}", f"PAY 7 19730 {day} 15 {525 * (day - 19729)} 525 4=525\nDONE {day} 1") for day in range(19730, 19734)),
+    *(
+        (f"CLOSE {day}", f"PAY 7 19730 {day} 15 {525 * (day - 19729)} 525 4=525\nDONE {day} 1")
+        for day in range(19730, 19734)
+    ),
     ("CLOSE 19734", "PAY 7 19730 19734 15 2470 370 4=370\nDONE 19734 1"),
     ("CLOSE 19736", "PAY 7 19730 19736 15 2470 0\nDONE 19736 1"),
     ("CLOSE 19733", "NO 42 StaleQuote"),
@@ -123,14 +128,6 @@ CLOSES = {
     "a capped week": [*capped(BUS_WEEK), *WEEK_CLOSED],
 }
 
-
-@test
-def postings(_):
-    """What is posted at each close, with caps."""
-    for name, pairs in CLOSES.items():
-        yield name, *play(RUN_SAMPLE, pairs)
-
-
 # On no accounts nothing is closed.
 NOTHING_CLOSED = (
     ("DUE 7 19730", "DUE 7 19730 19730 0 0"),
@@ -155,33 +152,34 @@ CLOSED_BETWEEN = (
 )
 
 
-@test
-def closes_among_other_lines(_):
-    """What other lines are answered before a close and after it."""
-    yield "an empty session that closes", *play(RUN, NOTHING_CLOSED)
-    yield "closes between other lines", *play(RUN, CLOSED_BETWEEN)
+class Closes(Theme):
+    def test_postings(self):
+        """What is posted at each close, with caps."""
+        for name, pairs in CLOSES.items():
+            self.check(name, *play(RUN_SAMPLE, pairs))
 
+    def test_closes_among_other_lines(self):
+        """What other lines are answered before a close and after it."""
+        self.check("an empty session that closes", *play(RUN, NOTHING_CLOSED))
+        self.check("closes between other lines", *play(RUN, CLOSED_BETWEEN))
 
-@test
-def eight_accounts(_):
-    """Each of them with three journeys at 340, whose taps come in turn."""
-    accounts = range(1, 9)
-    pairs = [
-        (f"TAP 1 {seq} {account} {utc} {place} {kind}", f"OK 19730 {price} {price}")
-        for seq, (utc, place, kind, price, _) in enumerate(ZONE_DAY[:6], 1) for account in accounts
-    ]
-    pairs += [(f"DUE {account} 19730", f"DUE {account} 19730 19730 6 890 1=593 2=297") for account in accounts]
-    paid = "".join(f"PAY {account} 19730 19730 6 890 890 1=593 2=297\n" for account in accounts)
-    pairs.append(("CLOSE 19730", f"{paid}DONE 19730 8"))
-    yield "eight accounts by train", *play(RUN_SAMPLE, pairs)
+    def test_eight_accounts(self):
+        """Each of them with three journeys at 340, whose taps come in turn."""
+        accounts = range(1, 9)
+        pairs = [
+            (f"TAP 1 {seq} {account} {utc} {place} {kind}", f"OK 19730 {price} {price}")
+            for seq, (utc, place, kind, price, _) in enumerate(ZONE_DAY[:6], 1) for account in accounts
+        ]
+        pairs += [(f"DUE {account} 19730", f"DUE {account} 19730 19730 6 890 1=593 2=297") for account in accounts]
+        paid = "".join(f"PAY {account} 19730 19730 6 890 890 1=593 2=297\n" for account in accounts)
+        pairs.append(("CLOSE 19730", f"{paid}DONE 19730 8"))
+        self.check("eight accounts by train", *play(RUN_SAMPLE, pairs))
 
-
-@test
-def a_thousand_accounts(_):
-    """The last one first."""
-    accounts = range(1, 1_001)
-    pairs = [(f"TAP 1 1 {account} 1704697200 50 BUS", "OK 19730 175 175") for account in reversed(accounts)]
-    for through, amount in ((19730, "175 4=175"), (19730, "175 4=175"), (19731, "0")):
-        paid = "".join(f"PAY {account} 19730 {through} 1 175 {amount}\n" for account in accounts)
-        pairs.append((f"CLOSE {through}", f"{paid}DONE {through} 1000"))
-    yield "1,000 accounts", *play(RUN, pairs)
+    def test_a_thousand_accounts(self):
+        """The last one first."""
+        accounts = range(1, 1_001)
+        pairs = [(f"TAP 1 1 {account} 1704697200 50 BUS", "OK 19730 175 175") for account in reversed(accounts)]
+        for through, amount in ((19730, "175 4=175"), (19730, "175 4=175"), (19731, "0")):
+            paid = "".join(f"PAY {account} 19730 {through} 1 175 {amount}\n" for account in accounts)
+            pairs.append((f"CLOSE {through}", f"{paid}DONE {through} 1000"))
+        self.check("1,000 accounts", *play(RUN, pairs))

@@ -1,9 +1,9 @@
 """What customer service does to an account's taps, by hand. All of it is with examples/sample.toml."""
 
-from support.judging import test
 from support.repository import RUN_SAMPLE
 from support.running import play
 from support.sessions import CREDITS, FILLED, LEFT, ONE_SECOND
+from support.theme import Theme
 
 # A boarding that never was is voided, brought back, and voided twice.
 VOIDED = (
@@ -130,7 +130,8 @@ DAYS_NAMED = (
     ("SHOW 8 19813", "SHOW 8 19813 1 175\nJNY BUS 50 0 1711855800 175"),
 )
 
-# What stands in the end: a Fill between two boardings, of which the second is voided, and of two Credits the one that is not withdrawn.
+# What stands in the end: a Fill between two boardings, of which the second is voided, and of two Credits the one that
+# is not withdrawn.
 STANDING = (
     ("TAP 1 1 7 1704697200 50 BUS", "OK 19730 175 175"),
     ("TAP 1 2 7 1704697260 50 BUS", "OK 19730 175 175"),
@@ -158,8 +159,8 @@ CORRECTIONS = {
 }
 
 
-@test
-def replies_to_corrections(_):
-    """Replies to taps and corrections, and the days that they make."""
-    for name, pairs in CORRECTIONS.items():
-        yield name, *play(RUN_SAMPLE, pairs)
+class Corrections(Theme):
+    def test_replies_to_corrections(self):
+        """Replies to taps and corrections, and the days that they make."""
+        for name, pairs in CORRECTIONS.items():
+            self.check(name, *play(RUN_SAMPLE, pairs))

@@ -6,11 +6,11 @@ import threading
 import time
 
 from support.fares import BUS_BAND, ZONES_1_TO_2, counted
-from support.judging import test
 from support.repository import BUS, CHECK, COUNTED, LONDON, ROOT
 from support.running import (
     FARES, MISSING, SEVEN, answers, boardings, closing, edited, fault, play, read, run, run_file, written,
 )
+from support.theme import Theme
 
 # What is put in the place of what in examples/bus.toml, and how the file is then refused.
 HOLIDAYS = "holidays = [19723]"
@@ -65,36 +65,16 @@ REFUSED_SAMPLES = (
     (BUS_BAND, 10 * BUS_BAND, "14 Duplicate"),
     # Bands stand after the single fares, and before the holidays.
     ("{ from = 3, to = 3, peak = 200, off = 180 },\n]\nband = [", "]\nband = [1,", "11 MissingKey"),
-    (f"{ZONES_1_TO_2}\n  {{ from = 1, to = 3, day = 1050, week = 5250 }},\n]\nholidays = [19723]", f"{BUS_BAND}\n]\nholidays = [3]", "14 Duplicate"),
+    (
+        f"{ZONES_1_TO_2}\n  {{ from = 1, to = 3, day = 1050, week = 5250 }},\n]\nholidays = [19723]",
+        f"{BUS_BAND}\n]\nholidays = [3]",
+        "14 Duplicate",
+    ),
 )
 
 # Bytes that are no text. They stand in a comment, where no reader of TOML would look at them.
 NO_TEXTS = (b"\xff", b"\xe2\x82", b"\xc0\x80", b"\xed\xa0\x80", b"\xf4\x90\x80\x80")
 UNREAD_FARES = (MISSING, ROOT, "/", "", "-", f"{FARES}/", f"{FARES}/more", "/" + "a" * 300, "/a" * 5_000)
-
-
-@test
-def refused_fare_files(folder):
-    """Fare files that cannot be read or are refused. They are refused alike by each program."""
-    lines, _ = boardings(2)
-
-    def judged(name, path, line):
-        for given in (["run", path, LONDON], ["check", path], ["statement", path, LONDON, "1", "19730"]):
-            yield f"{name}, to {given[0]}", run(given, lines, cwd=folder), fault(line)
-
-    def judged_text(name, content, line):
-        yield from judged(name, written(folder, "fares", content), line)
-
-    for path in UNREAD_FARES:
-        yield from judged(f"the fare file {path[:60]!r}", path, "cannot read fares")
-    for no_text in NO_TEXTS:
-        yield from judged_text(f"{no_text} in the fare file", b"# " + no_text + b"\n" + read("bus.toml"), "cannot read fares")
-    yield from judged_text("an empty fare file", b"", "11 MissingKey")
-    yield from judged_text("a fare file of a first key alone", b"zones = 0", "13 OutOfRange")
-    for name, rows in (("bus.toml", REFUSED_FARES), ("sample.toml", REFUSED_SAMPLES)):
-        for old, new, line in rows:
-            yield from judged_text(f"{new[:60]!r} in the place of {old!r} in {name}", edited(old, new, name), line)
-
 
 # What may be put there: keys that are not read, an array that may be missing, and the greatest numbers.
 TAKEN_FARES = (
@@ -105,15 +85,6 @@ TAKEN_FARES = (
     ("same_limit = 1800", "same_limit = 7200"),
     ("\n", "\r\n"),
 )
-
-
-@test
-def taken_fare_files(folder):
-    """Fare files that are not refused."""
-    lines, replies = boardings(2)
-    for old, new in TAKEN_FARES:
-        given = ["run", written(folder, "fares", edited(old, new)), LONDON]
-        yield f"{new[:60]!r} in the place of {old!r}", run(given, lines), answers(replies)
 
 
 def through_a_pipe(folder, pieces):
@@ -131,38 +102,78 @@ def through_a_pipe(folder, pieces):
     return path
 
 
-@test
-def long_fare_files(folder):
-    """A fare file whose rules stand after 3 MiB, which would be missed if it were read in part, and one in pieces."""
-    text = read("bus.toml")
-    front, rules_after = text.split(b"[rules]")
-    long = front + (b"# " + b"-" * 1021 + b"\n") * 3072 + b"[rules]" + rules_after
-    pairs = [(f"TAP 1 1 7 {SEVEN} 50 BUS", "OK 19730 175 175")]
-    yield "rules after 3 MiB", *play(["run", written(folder, "long", long), LONDON], pairs)
-    half = len(text) // 2
-    yield "a fare file in two pieces", *play(["run", through_a_pipe(folder, [text[:half], text[half:]]), LONDON], pairs)
-    sample = read("sample.toml")
-    ahead, bands_after = sample.split(b"band = [")
-    long = ahead + (b"# " + b"-" * 1021 + b"\n") * 3072 + b"band = [" + bands_after
-    yield "bands after 3 MiB, checked", run(["check", written(folder, "long", long)]), answers(COUNTED)
+class FareFiles(Theme):
+    def test_refused_fare_files(self):
+        """Fare files that cannot be read or are refused. They are refused alike by each program."""
+        lines, _ = boardings(2)
 
+        def judged(name, path, line):
+            for given in (["run", path, LONDON], ["check", path], ["statement", path, LONDON, "1", "19730"]):
+                self.check(f"{name}, to {given[0]}", run(given, lines, cwd=self.folder), fault(line))
 
-@test
-def what_a_file_has(folder):
-    """How many of each thing a fare file has, whatever the input is."""
-    lines, _ = boardings(2)
-    path = written(folder, "lines", lines)
-    yield "the sample", run(CHECK), answers(COUNTED)
-    yield "the sample by its path from here", run(["check", "examples/sample.toml"], cwd=ROOT), answers(COUNTED)
-    yield "a fare file without caps", run(["check", BUS]), counted(6, 0, 1, 1)
-    yield "lines that are not read", run_file(CHECK, path, leaves=True), answers(COUNTED)._replace(left=lines)
-    yield "input closed", run(CHECK, stdin=subprocess.DEVNULL, **closing(0)), answers(COUNTED)
-    for old, new, counts in (
-        (LAST_STATION, "", (5, 3, 1, 1)),
-        ("{ place = 50, operator = 4 },", "{ place = 50, operator = 4 }, { place = 51, operator = 4 },", (7, 3, 1, 1)),
-        (BUS_BAND, "", (6, 2, 1, 1)),
-        ("{ a = 10, b = 12, seconds = 1200 },", "", (6, 3, 0, 1)),
-        (HOLIDAYS, "holidays = [19723, 19724, 19725]", (6, 3, 1, 3)),
-        (HOLIDAYS, "", (6, 3, 1, 0)),
-    ):
-        yield f"the sample with {new!r} for {old!r}", run(["check", written(folder, "fares", edited(old, new, "sample.toml"))]), counted(*counts)
+        def judged_text(name, content, line):
+            judged(name, written(self.folder, "fares", content), line)
+
+        for path in UNREAD_FARES:
+            judged(f"the fare file {path[:60]!r}", path, "cannot read fares")
+        for no_text in NO_TEXTS:
+            judged_text(f"{no_text} in the fare file", b"# " + no_text + b"\n" + read("bus.toml"), "cannot read fares")
+        judged_text("an empty fare file", b"", "11 MissingKey")
+        judged_text("a fare file of a first key alone", b"zones = 0", "13 OutOfRange")
+        for name, rows in (("bus.toml", REFUSED_FARES), ("sample.toml", REFUSED_SAMPLES)):
+            for old, new, line in rows:
+                judged_text(f"{new[:60]!r} in the place of {old!r} in {name}", edited(old, new, name), line)
+
+    def test_taken_fare_files(self):
+        """Fare files that are not refused."""
+        lines, replies = boardings(2)
+        for old, new in TAKEN_FARES:
+            given = ["run", written(self.folder, "fares", edited(old, new)), LONDON]
+            self.check(f"{new[:60]!r} in the place of {old!r}", run(given, lines), answers(replies))
+
+    def test_long_fare_files(self):
+        """A fare file whose rules stand after 3 MiB, which would be missed if it were read in part, and one in
+        pieces."""
+        text = read("bus.toml")
+        front, rules_after = text.split(b"[rules]")
+        long = front + (b"# " + b"-" * 1021 + b"\n") * 3072 + b"[rules]" + rules_after
+        pairs = [(f"TAP 1 1 7 {SEVEN} 50 BUS", "OK 19730 175 175")]
+        self.check("rules after 3 MiB", *play(["run", written(self.folder, "long", long), LONDON], pairs))
+        half = len(text) // 2
+        self.check(
+            "a fare file in two pieces",
+            *play(["run", through_a_pipe(self.folder, [text[:half], text[half:]]), LONDON], pairs),
+        )
+        sample = read("sample.toml")
+        ahead, bands_after = sample.split(b"band = [")
+        long = ahead + (b"# " + b"-" * 1021 + b"\n") * 3072 + b"band = [" + bands_after
+        self.check("bands after 3 MiB, checked", run(["check", written(self.folder, "long", long)]), answers(COUNTED))
+
+    def test_what_a_file_has(self):
+        """How many of each thing a fare file has, whatever the input is."""
+        lines, _ = boardings(2)
+        path = written(self.folder, "lines", lines)
+        self.check("the sample", run(CHECK), answers(COUNTED))
+        self.check(
+            "the sample by its path from here", run(["check", "examples/sample.toml"], cwd=ROOT), answers(COUNTED)
+        )
+        self.check("a fare file without caps", run(["check", BUS]), counted(6, 0, 1, 1))
+        self.check("lines that are not read", run_file(CHECK, path, leaves=True), answers(COUNTED)._replace(left=lines))
+        self.check("input closed", run(CHECK, stdin=subprocess.DEVNULL, **closing(0)), answers(COUNTED))
+        for old, new, counts in (
+            (LAST_STATION, "", (5, 3, 1, 1)),
+            (
+                "{ place = 50, operator = 4 },",
+                "{ place = 50, operator = 4 }, { place = 51, operator = 4 },",
+                (7, 3, 1, 1),
+            ),
+            (BUS_BAND, "", (6, 2, 1, 1)),
+            ("{ a = 10, b = 12, seconds = 1200 },", "", (6, 3, 0, 1)),
+            (HOLIDAYS, "holidays = [19723, 19724, 19725]", (6, 3, 1, 3)),
+            (HOLIDAYS, "", (6, 3, 1, 0)),
+        ):
+            self.check(
+                f"the sample with {new!r} for {old!r}",
+                run(["check", written(self.folder, "fares", edited(old, new, "sample.toml"))]),
+                counted(*counts),
+            )

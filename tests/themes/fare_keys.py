@@ -2,8 +2,8 @@
 
 import re
 
-from support.judging import test
 from support.running import answers, fault, rows_of, run, written
+from support.theme import Theme
 
 # A fare file in another order of its keys than that of the refusals.
 GOOD_FILE = {
@@ -20,7 +20,10 @@ GOOD_FILE = {
     "minutes": "[90, 100, 110]",
     "zones": "3",
 }
-FAULT_NUMBERS = {"NotToml": 10, "MissingKey": 11, "WrongType": 12, "OutOfRange": 13, "Duplicate": 14, "UnknownPlace": 15, "TooMany": 16, "HopperDiffers": 17}
+FAULT_NUMBERS = {
+    "NotToml": 10, "MissingKey": 11, "WrongType": 12, "OutOfRange": 13, "Duplicate": 14, "UnknownPlace": 15,
+    "TooMany": 16, "HopperDiffers": 17,
+}
 
 # Changes to it, `key = value`, with `-` for a key that is left out, and how the file is then refused.
 REFUSED_KEYS = """
@@ -148,7 +151,8 @@ REFUSED_TWO_ZONES = """
     single = [A, B] => MissingKey
     single = [A, B, C, A] => Duplicate
     single = [A, B, B, C] => Duplicate
-    // An item's own keys before its span is looked for, an earlier item before a later one, and both before a span that has none.
+    // An item's own keys before its span is looked for, an earlier item before a later one, and both before a span that
+    // has none.
     single = [A, D] => MissingKey
     single = [C, C, 1] => Duplicate
     single = [C, 1, C] => WrongType
@@ -170,7 +174,8 @@ REFUSED_BANDS = """
     band = [{ from = 0, to = 0, day = 0, week = 0 }] => taken
     band = [{ week = 100000, day = 100000, to = 3, from = 3 }] => taken
     // A week's cap below a day's, and bands within one another.
-    band = [{ from = 1, to = 3, day = 9, week = 8 }, { from = 1, to = 2, day = 7, week = 7 }, { from = 2, to = 2, day = 8, week = 9 }] => taken
+    band = [{ from = 1, to = 3, day = 9, week = 8 }, { from = 1, to = 2, day = 7, week = 7 }, \
+        { from = 2, to = 2, day = 8, week = 9 }] => taken
     band = 1 => WrongType
     band = {} => WrongType
     band = [1] => WrongType
@@ -341,7 +346,8 @@ REFUSED_INTERCHANGES = """
     interchange = [A, A] => Duplicate
     interchange = [A, C] => Duplicate
     interchange = [F, A, B, C] => Duplicate
-    // An item's own faults before an earlier one between its stations is looked for, and an earlier item before a later one.
+    // An item's own faults before an earlier one between its stations is looked for, and an earlier item before a later
+    // one.
     interchange = [A, D] => MissingKey
     interchange = [A, { a = 12, b = 10, seconds = 0 }] => OutOfRange
     interchange = [A, E, C] => UnknownPlace
@@ -353,10 +359,13 @@ REFUSED_INTERCHANGES = """
     // They are between stations of the file.
     route = [] & interchange = [A] => taken
     station = [] & interchange = [A] => UnknownPlace
-    station = [{ place = 10, low = 1, high = 1, operator = 1 }] & route = [{ place = 12, operator = 4 }] & interchange = [A] => UnknownPlace
-    station = [] & route = [{ place = 10, operator = 4 }, { place = 12, operator = 4 }] & interchange = [A] => UnknownPlace
+    station = [{ place = 10, low = 1, high = 1, operator = 1 }] & route = [{ place = 12, \
+        operator = 4 }] & interchange = [A] => UnknownPlace
+    station = [] & route = [{ place = 10, operator = 4 }, { place = 12, operator = 4 }] & interchange = [A] => \
+        UnknownPlace
 """
-# A and B are whole editions of two days, C one of the day of A without its last key; M, R and S are what an edition must have.
+# A and B are whole editions of two days, C one of the day of A without its last key; M, R and S are what an edition
+# must have.
 EDITION_ITEMS = {
     "A": "{ day = 19731, M, R, S }",
     "B": "{ day = 19738, M, R, S, band = [{ from = 0, to = 0, day = 1, week = 1 }] }",
@@ -411,9 +420,12 @@ REFUSED_EDITIONS = """
     edition = [{ day = 5, M, rules = { bus = 1, maximum = 1, hopper = 3600 } }] => MissingKey
     edition = [{ day = 5, M, rules = { bus = 1, maximum = 1, hopper = 3600, same_free = 7201 } }] => OutOfRange
     edition = [{ day = 5, M, rules = { bus = 1, maximum = 1, hopper = 3600, same_free = 9 } }] => MissingKey
-    edition = [{ day = 5, M, rules = { bus = 1, maximum = 1, hopper = 3600, same_free = 9, same_limit = '9' } }] => WrongType
-    edition = [{ day = 5, M, rules = { bus = 1, maximum = 1, hopper = 3600, same_free = 9, same_limit = 7201 } }] => OutOfRange
-    edition = [{ day = 5, M, rules = { bus = 1, maximum = 1, hopper = 3600, same_free = 9, same_limit = 8 } }] => OutOfRange
+    edition = [{ day = 5, M, rules = { bus = 1, maximum = 1, hopper = 3600, same_free = 9, same_limit = '9' } }] => \
+        WrongType
+    edition = [{ day = 5, M, rules = { bus = 1, maximum = 1, hopper = 3600, same_free = 9, same_limit = 7201 } }] => \
+        OutOfRange
+    edition = [{ day = 5, M, rules = { bus = 1, maximum = 1, hopper = 3600, same_free = 9, same_limit = 8 } }] => \
+        OutOfRange
     edition = [{ day = 5, M, R }] => MissingKey
     edition = [{ day = 5, M, R, single = 1 }] => WrongType
     edition = [{ day = 5, M, R, single = [] }] => MissingKey
@@ -431,7 +443,8 @@ REFUSED_EDITIONS = """
     edition = [{ day = 5, M, R, single = [{ from = 1, to = 1, peak = 1 }] }] => MissingKey
     edition = [{ day = 5, M, R, single = [{ from = 1, to = 1, peak = 1, off = '1' }] }] => WrongType
     edition = [{ day = 5, M, R, single = [{ from = 1, to = 1, peak = 1, off = -1 }] }] => OutOfRange
-    edition = [{ day = 5, M, R, single = [{ from = 1, to = 1, peak = 1, off = 1 }, { from = 1, to = 1, peak = 1, off = 1 }] }] => Duplicate
+    edition = [{ day = 5, M, R, single = [{ from = 1, to = 1, peak = 1, off = 1 }, \
+        { from = 1, to = 1, peak = 1, off = 1 }] }] => Duplicate
     edition = [{ day = 5, M, R, S, band = 1 }] => WrongType
     edition = [{ day = 5, M, R, S, band = [1] }] => WrongType
     edition = [{ day = 5, M, R, S, band = [{}] }] => MissingKey
@@ -446,7 +459,8 @@ REFUSED_EDITIONS = """
     edition = [{ day = 5, M, R, S, band = [{ from = 1, to = 1, day = 1 }] }] => MissingKey
     edition = [{ day = 5, M, R, S, band = [{ from = 1, to = 1, day = 1, week = '1' }] }] => WrongType
     edition = [{ day = 5, M, R, S, band = [{ from = 1, to = 1, day = 1, week = -1 }] }] => OutOfRange
-    edition = [{ day = 5, M, R, S, band = [{ from = 0, to = 0, day = 1, week = 1 }, { from = 0, to = 0, day = 1, week = 1 }] }] => Duplicate
+    edition = [{ day = 5, M, R, S, band = [{ from = 0, to = 0, day = 1, week = 1 }, \
+        { from = 0, to = 0, day = 1, week = 1 }] }] => Duplicate
     // Of two faults the first key's, whatever their order in the file.
     edition = [{ M, rules = 1, day = 4 }] => OutOfRange
     edition = [{ day = 5, rules = 1, S, minutes = [0, 0, 0] }] => OutOfRange
@@ -464,7 +478,8 @@ REFUSED_EDITIONS = """
     interchange = [{}] & edition = 1 => MissingKey
     station = [{ place = 0 }] & edition = [{}] => OutOfRange
     // The zones are the file's own.
-    zones = 2 & minutes = [90, 100] & station = - & single = [{ from = 1, to = 1, peak = 0, off = 0 }, { from = 1, to = 2, peak = 0, off = 0 }, { from = 2, to = 2, peak = 0, off = 0 }] & edition = [A] => OutOfRange
+    zones = 2 & minutes = [90, 100] & station = - & single = [{ from = 1, to = 1, peak = 0, off = 0 }, \
+        { from = 1, to = 2, peak = 0, off = 0 }, { from = 2, to = 2, peak = 0, off = 0 }] & edition = [A] => OutOfRange
 """
 # An array that is no longer than it may be has the fault of its first item; with one item more none is looked at.
 LONGEST = {"band": 12, "holidays": 64, "station": 1_024, "route": 1_021, "interchange": 256, "edition": 8}
@@ -492,14 +507,14 @@ def refused_files():
         yield f"{key} = {(most + 1) * ['x']}", "TooMany"
 
 
-@test
-def faults_of_keys(folder):
-    """Each fault of each key of a fare file, and which one of several."""
-    for changes, wanted in refused_files():
-        changed = dict(change.split(" = ", 1) for change in changes.split(" & "))
-        text = "".join(f"{key} = {value}\n" for key, value in {**GOOD_FILE, **changed}.items() if value != "-")
-        came = run(["check", written(folder, "fares", text.encode())])
-        if wanted == "taken":
-            yield changes[:150], came._replace(output=came.output[:3]), answers(b"OK ")
-        else:
-            yield changes[:150], came, fault(f"{FAULT_NUMBERS[wanted]} {wanted}")
+class FareKeys(Theme):
+    def test_faults_of_keys(self):
+        """Each fault of each key of a fare file, and which one of several."""
+        for changes, wanted in refused_files():
+            changed = dict(change.split(" = ", 1) for change in changes.split(" & "))
+            text = "".join(f"{key} = {value}\n" for key, value in {**GOOD_FILE, **changed}.items() if value != "-")
+            came = run(["check", written(self.folder, "fares", text.encode())])
+            if wanted == "taken":
+                self.check(changes[:150], came._replace(output=came.output[:3]), answers(b"OK "))
+            else:
+                self.check(changes[:150], came, fault(f"{FAULT_NUMBERS[wanted]} {wanted}"))

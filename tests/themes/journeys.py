@@ -1,12 +1,13 @@
-"""Which taps make a journey, when it is peak, what it costs, and on which day it is shown. All of it is with examples/bus.toml."""
+"""Which taps make a journey, when it is peak, what it costs, and on which day it is shown. All of it is with
+examples/bus.toml."""
 
 import itertools
 
-from support.judging import test
 from support.running import A_DAY, RUN, answers, in_lines, play, rows_of, run
+from support.theme import Theme
 
-# Taps of an account on Monday, 2024-01-08, or on another day of that January, and the journeys that are shown of that day, each
-# with the time of its first tap and its fare. Times go on to the end of the service day, at 28:30.
+# Taps of an account on Monday, 2024-01-08, or on another day of that January, and the journeys that are shown of that
+# day, each with the time of its first tap and its fare. Times go on to the end of the service day, at 28:30.
 SHOWN_JOURNEYS = """
     // Peak by the first tap, at the ends of the morning's and of the evening's peak.
     IN 10 06:30, OUT 12 06:50 => RAIL 10 12 06:30 340
@@ -44,7 +45,8 @@ SHOWN_JOURNEYS = """
     2024-01-13: IN 10 17:00, OUT 12 17:20 => RAIL 10 12 17:00 280
     2024-01-01: IN 12 17:00, OUT 10 17:20 => RAIL 12 10 17:00 280
     2024-01-01: IN 10 17:00, OUT 12 17:20 => RAIL 10 12 17:00 280
-    // Legs that go on into one another, in the evening and in the morning: the span begins at zone 1 by a station between.
+    // Legs that go on into one another, in the evening and in the morning: the span begins at zone 1 by a station
+    // between.
     IN 14 17:00, OUT 12 17:10, IN 10 17:30, OUT 11 17:40 => RAIL 14 11 17:00 300
     IN 14 07:00, OUT 12 07:10, IN 10 07:30, OUT 11 07:40 => RAIL 14 11 07:00 370
     IN 14 15:59:59, OUT 12 16:09:59, IN 10 16:29:59, OUT 11 16:39:59 => RAIL 14 11 15:59:59 300
@@ -91,7 +93,8 @@ SHOWN_JOURNEYS = """
     // An Out is that of the In right before it.
     OUT 10 07:00, IN 10 07:00 => LONE 0 10 07:00 860, LONE 10 0 07:00 860
     IN 10 07:00, IN 10 07:01, OUT 12 07:21 => LONE 10 0 07:00 860, RAIL 10 12 07:01 340
-    IN 10 07:00, IN 11 07:05, IN 14 07:10, OUT 13 07:20 => LONE 10 0 07:00 860, LONE 11 0 07:05 860, RAIL 14 13 07:10 200
+    IN 10 07:00, IN 11 07:05, IN 14 07:10, OUT 13 07:20 => \
+        LONE 10 0 07:00 860, LONE 11 0 07:05 860, RAIL 14 13 07:10 200
     IN 10 07:00, OUT 12 07:20, OUT 12 07:21 => RAIL 10 12 07:00 340, LONE 0 12 07:21 860
     IN 10 07:00, OUT 12 07:20, IN 12 07:21, OUT 10 09:01 => RAIL 10 12 07:00 340, RAIL 12 10 07:21 340
     // No leg across a tap that came too late.
@@ -105,18 +108,26 @@ SHOWN_JOURNEYS = """
     IN 14 07:00, OUT 12 07:20, IN 12 07:21, OUT 11 07:50 => RAIL 14 12 07:00 210, RAIL 12 11 07:21 200
     // Three legs: all of them, the first two, and the last two.
     IN 14 07:00, OUT 12 07:20, IN 10 07:40, OUT 12 08:00, IN 10 08:20, OUT 11 08:30 => RAIL 14 11 07:00 370
-    IN 14 07:00, OUT 12 07:20, IN 10 07:40, OUT 12 08:00, IN 10 08:20:01, OUT 11 08:30 => RAIL 14 12 07:00 370, RAIL 10 11 08:20:01 280
-    IN 14 07:00, OUT 12 07:20, IN 10 07:40:01, OUT 12 08:00, IN 10 08:20, OUT 11 08:30 => RAIL 14 12 07:00 210, RAIL 10 11 07:40:01 340
-    // A lone tap parts two legs, and so does a leg from a station back to it, though each pair is listed and its time kept.
-    IN 14 07:00, OUT 12 07:20, IN 13 07:21, IN 10 07:40, OUT 11 07:50 => RAIL 14 12 07:00 210, LONE 13 0 07:21 860, RAIL 10 11 07:40 280
-    IN 14 07:00, OUT 12 07:20, IN 10 07:21, OUT 10 07:22, IN 12 07:30, OUT 13 07:40 => RAIL 14 12 07:00 210, SAME 10 10 07:21 0, RAIL 12 13 07:30 200
-    IN 10 07:00, IN 10 07:01, OUT 12 07:20, IN 12 07:30, OUT 12 07:31, IN 11 07:40, IN 11 07:41, IN 13 07:50, OUT 14 08:00 => \
-        LONE 10 0 07:00 860, RAIL 10 12 07:01 340, SAME 12 12 07:30 0, LONE 11 0 07:40 860, LONE 11 0 07:41 860, RAIL 13 14 07:50 200
+    IN 14 07:00, OUT 12 07:20, IN 10 07:40, OUT 12 08:00, IN 10 08:20:01, OUT 11 08:30 => \
+        RAIL 14 12 07:00 370, RAIL 10 11 08:20:01 280
+    IN 14 07:00, OUT 12 07:20, IN 10 07:40:01, OUT 12 08:00, IN 10 08:20, OUT 11 08:30 => \
+        RAIL 14 12 07:00 210, RAIL 10 11 07:40:01 340
+    // A lone tap parts two legs, and so does a leg from a station back to it, though each pair is listed and its time
+    // kept.
+    IN 14 07:00, OUT 12 07:20, IN 13 07:21, IN 10 07:40, OUT 11 07:50 => \
+        RAIL 14 12 07:00 210, LONE 13 0 07:21 860, RAIL 10 11 07:40 280
+    IN 14 07:00, OUT 12 07:20, IN 10 07:21, OUT 10 07:22, IN 12 07:30, OUT 13 07:40 => \
+        RAIL 14 12 07:00 210, SAME 10 10 07:21 0, RAIL 12 13 07:30 200
+    IN 10 07:00, IN 10 07:01, OUT 12 07:20, IN 12 07:30, OUT 12 07:31, IN 11 07:40, IN 11 07:41, IN 13 07:50, \
+        OUT 14 08:00 => \
+        LONE 10 0 07:00 860, RAIL 10 12 07:01 340, SAME 12 12 07:30 0, LONE 11 0 07:40 860, LONE 11 0 07:41 860, \
+        RAIL 13 14 07:50 200
     // A boarding does not.
     IN 14 07:00, OUT 12 07:20, BUS 50 07:30, IN 10 07:40, OUT 11 07:50 => RAIL 14 11 07:00 370, BUS 50 0 07:30 175
 
     // The last one to arrive is the first of the day.
-    BUS 50 07:00, BUS 50 07:50, BUS 50 08:23:20, BUS 50 06:43:20 => BUS 50 0 06:43:20 175, BUS 50 0 07:00 0, BUS 50 0 07:50 175, BUS 50 0 08:23:20 0
+    BUS 50 07:00, BUS 50 07:50, BUS 50 08:23:20, BUS 50 06:43:20 => \
+        BUS 50 0 06:43:20 175, BUS 50 0 07:00 0, BUS 50 0 07:50 175, BUS 50 0 08:23:20 0
     // Just in the Hopper time and a second later.
     BUS 50 07:00, BUS 50 08:00, BUS 50 08:00:01 => BUS 50 0 07:00 175, BUS 50 0 08:00 0, BUS 50 0 08:00:01 175
     // A boarding and a lone tap at a station in two zones.
@@ -125,11 +136,15 @@ SHOWN_JOURNEYS = """
     BUS 50 07:00, BUS 50 07:00 => BUS 50 0 07:00 175, BUS 50 0 07:00 0
     // Journeys of each kind, and at 17:00 two taps in one second.
     OUT 14 12:00, IN 11 12:30, OUT 11 12:35, BUS 50 12:32, IN 10 13:00, OUT 10 13:02, BUS 50 17:00, IN 12 17:00 => \
-        LONE 0 14 12:00 860, SAME 11 11 12:30 190, BUS 50 0 12:32 175, SAME 10 10 13:00 0, BUS 50 0 17:00 175, LONE 12 0 17:00 860
+        LONE 0 14 12:00 860, SAME 11 11 12:30 190, BUS 50 0 12:32 175, SAME 10 10 13:00 0, BUS 50 0 17:00 175, \
+        LONE 12 0 17:00 860
     // In the order of their first taps, whatever the order of the taps.
-    IN 13 08:20, OUT 14 08:00, OUT 11 07:32:01, IN 11 07:30, BUS 50 07:10, OUT 12 07:20, IN 10 07:00, BUS 50 06:43:20 => \
-        BUS 50 0 06:43:20 175, RAIL 10 12 07:00 340, BUS 50 0 07:10 0, SAME 11 11 07:30 200, LONE 0 14 08:00 860, LONE 13 0 08:20 860
-    // From 04:20 to 05:50 on Tuesday: the journey belongs to Monday. A second longer, and no leg: each tap belongs to its own day.
+    IN 13 08:20, OUT 14 08:00, OUT 11 07:32:01, IN 11 07:30, BUS 50 07:10, OUT 12 07:20, IN 10 07:00, \
+        BUS 50 06:43:20 => \
+        BUS 50 0 06:43:20 175, RAIL 10 12 07:00 340, BUS 50 0 07:10 0, SAME 11 11 07:30 200, LONE 0 14 08:00 860, \
+        LONE 13 0 08:20 860
+    // From 04:20 to 05:50 on Tuesday: the journey belongs to Monday. A second longer, and no leg: each tap belongs to
+    // its own day.
     IN 14 28:20, OUT 13 29:50 => RAIL 14 13 28:20 180
     IN 14 28:20, OUT 13 29:50:01 => LONE 14 0 28:20 860
 """
@@ -150,7 +165,10 @@ def journeys_shown(given, wanted, account):
         kind, place, clock = tap.split()
         lines.append(f"TAP 1 {seq} {account} {A_DAY * day + second_of(clock)} {place} {kind}")
     journeys = [it.split() for it in wanted.split(", ")]
-    shown = [f"JNY {kind} {start} {end} {A_DAY * day + second_of(clock)} {fare}" for kind, start, end, clock, fare in journeys]
+    shown = [
+        f"JNY {kind} {start} {end} {A_DAY * day + second_of(clock)} {fare}"
+        for kind, start, end, clock, fare in journeys
+    ]
     head = f"SHOW {account} {day} {len(journeys)} {sum(int(it[-1]) for it in journeys)}"
     return [*lines, f"SHOW {account} {day}"], "\n".join([head, *shown])
 
@@ -160,33 +178,11 @@ def only_shown(came):
     return came._replace(output=b"".join(line for line in came.output.splitlines(True) if not line.startswith(b"OK ")))
 
 
-@test
-def journeys_by_rows(_):
-    """The journeys of the taps of each row, and their fares."""
-    for account, (given, wanted) in enumerate(rows_of(SHOWN_JOURNEYS), 1):
-        lines, reply = journeys_shown(given, wanted, account)
-        yield given, only_shown(run(RUN, in_lines(lines))), answers(in_lines([reply]))
-
-
 # Taps that come in each order: those of two journeys, and those of one of three legs.
 IN_EACH_ORDER = (
     ("IN 14 07:00, OUT 12 07:20, IN 10 07:40:01, OUT 11 07:50", "RAIL 14 12 07:00 210, RAIL 10 11 07:40:01 280"),
     ("IN 14 07:00, OUT 12 07:20, IN 10 07:40, OUT 12 08:00, IN 10 08:20, OUT 11 08:30", "RAIL 14 11 07:00 370"),
 )
-
-
-@test
-def taps_in_each_order(_):
-    """The same journeys, in whatever order their taps come."""
-    for taps, wanted in IN_EACH_ORDER:
-        # Each order is that of another account.
-        lines, replies = [], []
-        for account, order in enumerate(itertools.permutations(taps.split(", ")), 1):
-            given, reply = journeys_shown(", ".join(order), wanted, account)
-            lines += given
-            replies.append(reply)
-        yield f"each order of {taps}", only_shown(run(RUN, in_lines(lines))), answers(in_lines(replies))
-
 
 # An account without taps beside one that has some; and at one instant the tap of the lesser reader comes first.
 BESIDE = (
@@ -199,7 +195,24 @@ BESIDE = (
 )
 
 
-@test
-def accounts_and_readers(_):
-    """Whose journeys are shown, and in which order."""
-    yield "accounts and readers", *play(RUN, BESIDE)
+class Journeys(Theme):
+    def test_journeys_by_rows(self):
+        """The journeys of the taps of each row, and their fares."""
+        for account, (given, wanted) in enumerate(rows_of(SHOWN_JOURNEYS), 1):
+            lines, reply = journeys_shown(given, wanted, account)
+            self.check(given, only_shown(run(RUN, in_lines(lines))), answers(in_lines([reply])))
+
+    def test_taps_in_each_order(self):
+        """The same journeys, in whatever order their taps come."""
+        for taps, wanted in IN_EACH_ORDER:
+            # Each order is that of another account.
+            lines, replies = [], []
+            for account, order in enumerate(itertools.permutations(taps.split(", ")), 1):
+                given, reply = journeys_shown(", ".join(order), wanted, account)
+                lines += given
+                replies.append(reply)
+            self.check(f"each order of {taps}", only_shown(run(RUN, in_lines(lines))), answers(in_lines(replies)))
+
+    def test_accounts_and_readers(self):
+        """Whose journeys are shown, and in which order."""
+        self.check("accounts and readers", *play(RUN, BESIDE))

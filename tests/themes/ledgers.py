@@ -1,4 +1,5 @@
-"""Ledgers in files: what closes post there and the next session finds, files that are none, in use, without their journal or full."""
+"""Ledgers in files: what closes post there and the next session finds, files that are none, in use, without their
+journal or full."""
 
 import contextlib
 import copy
@@ -15,7 +16,6 @@ import time
 from oracle import loads, rules
 from support.drawn import parts_of, with_closes
 from support.journals import CANNOT_USE, JOURNAL_FAULT, bad_line, replayed
-from support.judging import test
 from support.kept import Kept, rows_of_ledger
 from support.ledgers import (
     ALONE, FIRST_POSTING, FIRST_SESSION, FIRST_SHARE, FIRST_TAP, NO_LEDGER, ROWS_AFTER_FIRST, ROWS_AFTER_SECOND,
@@ -29,6 +29,7 @@ from support.running import (
     limited_to, missing, run, run_file, session, started, written,
 )
 from support.statements import rows_of_statement
+from support.theme import Theme
 
 
 def copied_rows(path, folder):
@@ -41,8 +42,8 @@ def closing(path, folder, came):
     return came._replace(left=copied_rows(path, folder))
 
 
-# The second and third session with the journal and ledger of FIRST_SESSION. In the third a boarding is filled in, and 40 pence are
-# credited: of 475, which are due, 475 * 340 / 515 is 313, and the rest is the bus operator's.
+# The second and third session with the journal and ledger of FIRST_SESSION. In the third a boarding is filled in, and
+# 40 pence are credited: of 475, which are due, 475 * 340 / 515 is 313, and the rest is the bus operator's.
 SECOND_SESSION = (
     ("CLOSE 19730", "PAY 7 19730 19730 1 860 860 1=860\nDONE 19730 1"),
     ("TAP 1 1 7 1704697200 10 IN", "AGAIN 19730 860 860"),
@@ -65,7 +66,8 @@ ROWS_AFTER_THIRD = rows(
     FIRST_POSTING, SECOND_POSTING, (7, 19730, 19731, 6, 475, 135, 4), (8, 19730, 19731, 1, 175, 175, 4),
     FIRST_SHARE, SECOND_SHARE, (7, 6, 19731, 1, -27), (7, 6, 19731, 4, 162), (8, 1, 19731, 4, 175),
     FIRST_TAP, SECOND_TAP, (8, 1, 1, 1704783600, 19731, 25200, 50, 2),
-    (7, 3, 1, 2, 19730, 40, 0, 0, 0), (7, 3, 2, 0, 9, 9, 0, 0, 0), (7, 3, 3, 1, 1704718800, 19730, 46800, 50, 2), (7, 3, 4, 3, 3, 2, 0, 0, 0),
+    (7, 3, 1, 2, 19730, 40, 0, 0, 0), (7, 3, 2, 0, 9, 9, 0, 0, 0), (7, 3, 3, 1, 1704718800, 19730, 46800, 50, 2),
+    (7, 3, 4, 3, 3, 2, 0, 0, 0),
 )
 # The last session asks for what was posted, and posts nothing.
 LAST_SESSION = (
@@ -74,153 +76,214 @@ LAST_SESSION = (
 )
 
 
-@test
-def sessions_that_go_on(folder):
-    """What closes of four sessions post one after another, and the rows after each."""
-    for more in ((), ("--sync",)):
-        path, journal = os.path.join(folder, f"ledger{len(more)}"), os.path.join(folder, f"journal{len(more)}")
-        words, name = with_ledger(path, journal, RUN_SAMPLE, *more), " ".join(("--ledger", *more))
-        yield f"{name}, no lines", closing(path, folder, run(words)), End(0, left=rows())
-        for number, (pairs, left) in enumerate((
-            (FIRST_SESSION, ROWS_AFTER_FIRST), (SECOND_SESSION, ROWS_AFTER_SECOND), (THIRD_SESSION, ROWS_AFTER_THIRD),
-            (LAST_SESSION, ROWS_AFTER_THIRD),
-        ), 1):
-            lines, replies = session(pairs)
-            came = but_for_closes(run(words, lines))
-            yield f"{name}, session {number}", closing(path, folder, came), End(0, replies, left=left)
-    there = " ".join(sorted(it for it in os.listdir(folder) if it != "copied"))
-    yield "the files there", answers(there.encode()), answers(
-        b"journal0 journal0.fares journal0.posted journal1 journal1.fares journal1.posted ledger0 ledger0-wal ledger1 ledger1-wal")
+class Sessions(Theme):
+    """What sessions post one after another."""
 
+    def test_sessions_that_go_on(self):
+        """What closes of four sessions post one after another, and the rows after each."""
+        for more in ((), ("--sync",)):
+            path = os.path.join(self.folder, f"ledger{len(more)}")
+            journal = os.path.join(self.folder, f"journal{len(more)}")
+            words, name = with_ledger(path, journal, RUN_SAMPLE, *more), " ".join(("--ledger", *more))
+            self.check(f"{name}, no lines", closing(path, self.folder, run(words)), End(0, left=rows()))
+            for number, (pairs, left) in enumerate((
+                (FIRST_SESSION, ROWS_AFTER_FIRST), (SECOND_SESSION, ROWS_AFTER_SECOND),
+                (THIRD_SESSION, ROWS_AFTER_THIRD),
+                (LAST_SESSION, ROWS_AFTER_THIRD),
+            ), 1):
+                lines, replies = session(pairs)
+                came = but_for_closes(run(words, lines))
+                self.check(f"{name}, session {number}", closing(path, self.folder, came), End(0, replies, left=left))
+        there = " ".join(sorted(it for it in os.listdir(self.folder) if it != "copied"))
+        self.check(
+            "the files there",
+            answers(there.encode()),
+            answers(
+                b"journal0 journal0.fares journal0.posted journal1 journal1.fares journal1.posted "
+                b"ledger0 ledger0-wal ledger1 ledger1-wal"
+            ),
+        )
 
-@test
-def ledgers_without_a_journal(folder):
-    """A ledger and no journal: the session posts, and the next one is refused once something is archived. Nothing is read of its input then."""
-    path = os.path.join(folder, "ledger")
-    words = with_ledger(path)
-    for name, lines, replies in (
-        ("no close", b"TAP 1 1 7 1704697200 50 BUS\n", b"OK 19730 175 175\n"),
-        ("a close of nothing", b"CLOSE 19730\n", b"DONE 19730 0\n"),
-        ("a close of another week", b"TAP 1 1 7 1704697200 50 BUS\nCLOSE 19729\n", b"OK 19730 175 175\nDONE 19729 0\n"),
-    ):
-        yield f"without a journal, {name}", closing(path, folder, run(words, lines)), End(0, replies, left=rows())
-    lines, replies = session((
-        ("TAP 1 1 7 1704697200 50 BUS", "OK 19730 175 175"), ("CLOSE 19730", "PAY 7 19730 19730 1 175 175 4=175\nDONE 19730 1"),
-    ))
-    left = rows((7, 19730, 19730, 1, 175, 175, 4), (7, 1, 19730, 4, 175), (7, 1, 1, 1704697200, 19730, 25200, 50, 2))
-    yield "without a journal, a close", closing(path, folder, run(words, lines)), End(0, replies, left=left)
-    given = written(folder, "lines", lines)
-    for name, journal, text in (
-        ("no journal", None, None), ("a journal that is made", "journal", None), ("an empty journal", "journal", b""),
-        ("a journal of a cut line", "journal", b"TAP 1 1 7 1704697200 50 BUS"),
-    ):
-        kept = missing(folder, journal) if journal else None
-        if text is not None:
-            written(folder, journal, text)
-        came = run_file(with_ledger(path, kept), given, leaves=True)
-        yield f"a ledger that archives something, and {name}", came, ALONE._replace(left=lines)
-        yield f"the journal then, {name}", answers(kept and bytes_of(kept)), answers(kept and (text or b""))
-        yield f"the ledger then, {name}", answers(copied_rows(path, folder)), answers(left)
-    # Its journal is the line of the tap; more lines may come with it.
-    journal = written(folder, "journal", lines.splitlines(True)[0])
-    lines, replies = session((
-        ("CLOSE 19730", "PAY 7 19730 19730 1 175 175 4=175\nDONE 19730 1"), ("TAP 1 2 7 1704704400 50 BUS", "OK 19730 350 350"),
-        ("CLOSE 19730", "PAY 7 19730 19730 2 350 175 4=175\nDONE 19730 1"),
-    ))
-    yield "a ledger and its journal", run(with_ledger(path, journal), lines), answers(replies)
+    def test_ledgers_without_a_journal(self):
+        """A ledger and no journal: the session posts, and the next one is refused once something is archived. Nothing
+        is read of its input then."""
+        path = os.path.join(self.folder, "ledger")
+        words = with_ledger(path)
+        for name, lines, replies in (
+            ("no close", b"TAP 1 1 7 1704697200 50 BUS\n", b"OK 19730 175 175\n"),
+            ("a close of nothing", b"CLOSE 19730\n", b"DONE 19730 0\n"),
+            (
+                "a close of another week",
+                b"TAP 1 1 7 1704697200 50 BUS\nCLOSE 19729\n",
+                b"OK 19730 175 175\nDONE 19729 0\n",
+            ),
+        ):
+            self.check(
+                f"without a journal, {name}",
+                closing(path, self.folder, run(words, lines)),
+                End(0, replies, left=rows()),
+            )
+        lines, replies = session((
+            ("TAP 1 1 7 1704697200 50 BUS", "OK 19730 175 175"),
+            ("CLOSE 19730", "PAY 7 19730 19730 1 175 175 4=175\nDONE 19730 1"),
+        ))
+        left = rows(
+            (7, 19730, 19730, 1, 175, 175, 4), (7, 1, 19730, 4, 175), (7, 1, 1, 1704697200, 19730, 25200, 50, 2)
+        )
+        self.check(
+            "without a journal, a close", closing(path, self.folder, run(words, lines)), End(0, replies, left=left)
+        )
+        given = written(self.folder, "lines", lines)
+        for name, journal, text in (
+            ("no journal", None, None), ("a journal that is made", "journal", None),
+            ("an empty journal", "journal", b""),
+            ("a journal of a cut line", "journal", b"TAP 1 1 7 1704697200 50 BUS"),
+        ):
+            kept = missing(self.folder, journal) if journal else None
+            if text is not None:
+                written(self.folder, journal, text)
+            came = run_file(with_ledger(path, kept), given, leaves=True)
+            self.check(f"a ledger that archives something, and {name}", came, ALONE._replace(left=lines))
+            self.check(f"the journal then, {name}", answers(kept and bytes_of(kept)), answers(kept and (text or b"")))
+            self.check(f"the ledger then, {name}", answers(copied_rows(path, self.folder)), answers(left))
+        # Its journal is the line of the tap; more lines may come with it.
+        journal = written(self.folder, "journal", lines.splitlines(True)[0])
+        lines, replies = session((
+            ("CLOSE 19730", "PAY 7 19730 19730 1 175 175 4=175\nDONE 19730 1"),
+            ("TAP 1 2 7 1704704400 50 BUS", "OK 19730 350 350"),
+            ("CLOSE 19730", "PAY 7 19730 19730 2 350 175 4=175\nDONE 19730 1"),
+        ))
+        self.check("a ledger and its journal", run(with_ledger(path, journal), lines), answers(replies))
 
 
 # Corrections of each form, of which the ledger archives each. The touch in is taken out in the end, and nothing is due.
 EACH_FORM = (
     ("TAP 1 1 7 1704697200 10 IN", "OK 19730 860 860"), ("FIX 3 1 7 FILL 1704699000 12 OUT", "OK 19730 340 340"),
-    ("FIX 3 2 7 CREDIT 19730 100", "OK 19730 340 340"), ("FIX 3 3 7 DROP 3 1", "OK 19730 860 860"), ("FIX 3 4 7 VOID 1 1", "OK 19730 0 0"),
+    ("FIX 3 2 7 CREDIT 19730 100", "OK 19730 340 340"), ("FIX 3 3 7 DROP 3 1", "OK 19730 860 860"),
+    ("FIX 3 4 7 VOID 1 1", "OK 19730 0 0"),
     ("TAP 1 1 8 1704697200 50 BUS", "OK 19730 175 175"), ("TAP 1 1 9 1704697200 50 BUS", "OK 19730 175 175"),
-    ("CLOSE 19730", "PAY 7 19730 19730 5 0 0\nPAY 8 19730 19730 1 175 175 4=175\nPAY 9 19730 19730 1 175 175 4=175\nDONE 19730 3"),
+    (
+        "CLOSE 19730",
+        "PAY 7 19730 19730 5 0 0\nPAY 8 19730 19730 1 175 175 4=175\nPAY 9 19730 19730 1 175 175 4=175\nDONE 19730 3",
+    ),
 )
 
 
-@test
-def journals_of_another(folder):
-    """A ledger beside a journal that is not its own, has lost lines, or is read by another zone or fare file: nothing is read or written."""
-    path = os.path.join(folder, "ledger")
-    journal = os.path.join(folder, "journal")
-    first, second = "TAP 1 1 7 1704697200 50 BUS", "TAP 1 2 7 1704704400 50 BUS"
-    lines, replies = session(((first, "OK 19730 175 175"), (second, "OK 19730 350 350"), ("CLOSE 19730", "PAY 7 19730 19730 2 350 350 4=350\nDONE 19730 1")))
-    yield "the ledger's own", run(with_ledger(path, journal), lines), answers(replies)
-    left = copied_rows(path, folder)
-    lacks_first, lacks_second = lacks(f"{first}, on day 19730 at second 25200"), lacks(f"{second}, on day 19730 at second 32400")
-    dearer = written(folder, "dearer", bytes_of(FARES).replace(b"bus = 175", b"bus = 176"))
-    otherwise = fault("account 7 was posted otherwise for week 19730 through 19730")
-    for name, text, words, wanted in (
-        ("another tap of that number", (first.replace("50 BUS", "10 IN"), second), RUN, lacks_first),
-        ("the other line alone", (second,), RUN, lacks_first),
-        ("a line less", (first,), RUN, lacks_second),
-        ("another line in its place", (first, "TAP 1 3 7 1704697201 50 BUS"), RUN, lacks_second),
-        ("lines of another account", ("TAP 1 1 8 1704697200 50 BUS",), RUN, lacks_first),
-        ("another zone", (first, second), [*RUN[:2], "CET-1"], lacks_first),
-        ("another fare file", (first, second), ["run", dearer, LONDON], otherwise),
-    ):
-        given, other = written(folder, "lines", b"TAP 1 9 7 1704697300 50 BUS\nCLOSE 19730\n"), written(folder, "other", in_lines(text))
-        yield name, run_file(with_ledger(path, other, words), given, leaves=True), wanted._replace(left=bytes_of(given))
-        yield f"{name}, the journal then", answers(bytes_of(other)), answers(in_lines(text))
-        yield f"{name}, the ledger then", answers(copied_rows(path, folder)), answers(left)
-    # A line that was lost is sent again to a session without the ledger.
-    other = written(folder, "other", in_lines([second]))
-    yield "a line that was lost", run([*RUN, "--journal", other], in_lines([first])), answers(b"OK 19730 350 350\n")
-    lines, replies = session((("CLOSE 19730", "PAY 7 19730 19730 2 350 350 4=350\nDONE 19730 1"),))
-    yield "a line that was lost and sent again", run(with_ledger(path, other), lines), answers(replies)
-    yield "a line that was lost and sent again, the ledger then", answers(copied_rows(path, folder)), answers(left)
-    # What was posted for a version that the account has not, and what another sum was due for; beside a journal where no posting is noted.
-    for name, change in (("a later version", "version = 3"), ("another sum", "due = 351, amount = 351")):
-        changed = others_database(shutil.copy(path, os.path.join(folder, "changed")), f"UPDATE postings2 SET {change}", "UPDATE shares2 SET amount = 351" if "351" in change else "SELECT 1")
-        yield f"a posting of {name}", run(with_ledger(changed, other), lines), otherwise
+class OtherJournals(Theme):
+    """Ledgers beside journals that are not their own, or have lost lines; and drawn sessions."""
 
+    def test_journals_of_another(self):
+        """A ledger beside a journal that is not its own, has lost lines, or is read by another zone or fare file:
+        nothing is read or written."""
+        path = os.path.join(self.folder, "ledger")
+        journal = os.path.join(self.folder, "journal")
+        first, second = "TAP 1 1 7 1704697200 50 BUS", "TAP 1 2 7 1704704400 50 BUS"
+        lines, replies = session((
+            (first, "OK 19730 175 175"),
+            (second, "OK 19730 350 350"),
+            ("CLOSE 19730", "PAY 7 19730 19730 2 350 350 4=350\nDONE 19730 1"),
+        ))
+        self.check("the ledger's own", run(with_ledger(path, journal), lines), answers(replies))
+        left = copied_rows(path, self.folder)
+        lacks_first = lacks(f"{first}, on day 19730 at second 25200")
+        lacks_second = lacks(f"{second}, on day 19730 at second 32400")
+        dearer = written(self.folder, "dearer", bytes_of(FARES).replace(b"bus = 175", b"bus = 176"))
+        otherwise = fault("account 7 was posted otherwise for week 19730 through 19730")
+        for name, text, words, wanted in (
+            ("another tap of that number", (first.replace("50 BUS", "10 IN"), second), RUN, lacks_first),
+            ("the other line alone", (second,), RUN, lacks_first),
+            ("a line less", (first,), RUN, lacks_second),
+            ("another line in its place", (first, "TAP 1 3 7 1704697201 50 BUS"), RUN, lacks_second),
+            ("lines of another account", ("TAP 1 1 8 1704697200 50 BUS",), RUN, lacks_first),
+            ("another zone", (first, second), [*RUN[:2], "CET-1"], lacks_first),
+            ("another fare file", (first, second), ["run", dearer, LONDON], otherwise),
+        ):
+            given = written(self.folder, "lines", b"TAP 1 9 7 1704697300 50 BUS\nCLOSE 19730\n")
+            other = written(self.folder, "other", in_lines(text))
+            self.check(
+                name,
+                run_file(with_ledger(path, other, words), given, leaves=True),
+                wanted._replace(left=bytes_of(given)),
+            )
+            self.check(f"{name}, the journal then", answers(bytes_of(other)), answers(in_lines(text)))
+            self.check(f"{name}, the ledger then", answers(copied_rows(path, self.folder)), answers(left))
+        # A line that was lost is sent again to a session without the ledger.
+        other = written(self.folder, "other", in_lines([second]))
+        self.check(
+            "a line that was lost", run([*RUN, "--journal", other], in_lines([first])), answers(b"OK 19730 350 350\n")
+        )
+        lines, replies = session((("CLOSE 19730", "PAY 7 19730 19730 2 350 350 4=350\nDONE 19730 1"),))
+        self.check("a line that was lost and sent again", run(with_ledger(path, other), lines), answers(replies))
+        self.check(
+            "a line that was lost and sent again, the ledger then",
+            answers(copied_rows(path, self.folder)),
+            answers(left),
+        )
+        # What was posted for a version that the account has not, and what another sum was due for; beside a journal
+        # where no posting is noted.
+        for name, change in (("a later version", "version = 3"), ("another sum", "due = 351, amount = 351")):
+            changed = others_database(
+                shutil.copy(path, os.path.join(self.folder, "changed")),
+                f"UPDATE postings2 SET {change}",
+                "UPDATE shares2 SET amount = 351" if "351" in change else "SELECT 1",
+            )
+            self.check(f"a posting of {name}", run(with_ledger(changed, other), lines), otherwise)
 
-@test
-def lost_lines(folder):
-    """A ledger beside a journal that has lost one line: the first account that differs is named by it."""
-    path, journal = os.path.join(folder, "ledger"), os.path.join(folder, "journal")
-    lines, replies = session(EACH_FORM)
-    yield "the ledger's own", run(with_ledger(path, journal, RUN_SAMPLE), lines), answers(replies)
-    kept = [line for line, _ in EACH_FORM[:-1]]
-    for number, line in enumerate(kept):
-        at = {0: ", on day 19730 at second 25200", 1: ", on day 19730 at second 27000", 5: ", on day 19730 at second 25200", 6: ", on day 19730 at second 25200"}.get(number, "")
-        other = written(folder, "other", in_lines(kept[:number] + kept[number + 1:]))
-        yield f"without {line}", run(with_ledger(path, other, RUN_SAMPLE)), lacks(line + at)
-    other = written(folder, "other", in_lines(kept[:5]))
-    yield "without two accounts", run(with_ledger(path, other, RUN_SAMPLE)), lacks(f"{kept[5]}, on day 19730 at second 25200")
-    other = written(folder, "other", in_lines([kept[6], *kept[:6]]))
-    yield "all lines in another order", run(with_ledger(path, other, RUN_SAMPLE)), answers(b"")
+    def test_lost_lines(self):
+        """A ledger beside a journal that has lost one line: the first account that differs is named by it."""
+        path, journal = os.path.join(self.folder, "ledger"), os.path.join(self.folder, "journal")
+        lines, replies = session(EACH_FORM)
+        self.check("the ledger's own", run(with_ledger(path, journal, RUN_SAMPLE), lines), answers(replies))
+        kept = [line for line, _ in EACH_FORM[:-1]]
+        for number, line in enumerate(kept):
+            at = {
+                0: ", on day 19730 at second 25200", 1: ", on day 19730 at second 27000",
+                5: ", on day 19730 at second 25200", 6: ", on day 19730 at second 25200",
+            }.get(number, "")
+            other = written(self.folder, "other", in_lines(kept[:number] + kept[number + 1:]))
+            self.check(f"without {line}", run(with_ledger(path, other, RUN_SAMPLE)), lacks(line + at))
+        other = written(self.folder, "other", in_lines(kept[:5]))
+        self.check(
+            "without two accounts",
+            run(with_ledger(path, other, RUN_SAMPLE)),
+            lacks(f"{kept[5]}, on day 19730 at second 25200"),
+        )
+        other = written(self.folder, "other", in_lines([kept[6], *kept[:6]]))
+        self.check("all lines in another order", run(with_ledger(path, other, RUN_SAMPLE)), answers(b""))
 
-
-@test
-def drawn_sessions(folder):
-    """A week of taps, corrections and closes of 30 accounts in several sessions with one ledger, each with lines of those before it."""
-    for seed in range(2):
-        draw, kept, before = random.Random(seed), Kept(), []
-        path, journal = os.path.join(folder, f"ledger{seed}"), os.path.join(folder, f"journal{seed}")
-        for number, part in enumerate(parts_of(draw, list(with_closes(draw, loads.corrected_week(draw, 30))), 6), 1):
-            part = draw.sample(before, len(before) // 10) + part
-            before = part
-            lines = "".join(map(rules.line, part)).encode()
-            came = run(with_ledger(path, journal, RUN_SAMPLE, *draw.choice(((), ("--sync",)))), lines)
-            wanted = b"".join(map(kept.reply, part))
-            came = but_for_closes(came)._replace(left=copied_rows(path, folder))
-            yield f"session {number} of draw {seed}", came, End(0, wanted, left=kept.rows())
-        yield f"the journal of draw {seed}", answers(bytes_of(journal)), answers(kept.lines)
+    def test_drawn_sessions(self):
+        """A week of taps, corrections and closes of 30 accounts in several sessions with one ledger, each with lines of
+        those before it."""
+        for seed in range(2):
+            draw, kept, before = random.Random(seed), Kept(), []
+            path, journal = os.path.join(self.folder, f"ledger{seed}"), os.path.join(self.folder, f"journal{seed}")
+            for number, part in enumerate(
+                parts_of(draw, list(with_closes(draw, loads.corrected_week(draw, 30))), 6), 1
+            ):
+                part = draw.sample(before, len(before) // 10) + part
+                before = part
+                lines = "".join(map(rules.line, part)).encode()
+                came = run(with_ledger(path, journal, RUN_SAMPLE, *draw.choice(((), ("--sync",)))), lines)
+                wanted = b"".join(map(kept.reply, part))
+                came = but_for_closes(came)._replace(left=copied_rows(path, self.folder))
+                self.check(f"session {number} of draw {seed}", came, End(0, wanted, left=kept.rows()))
+            self.check(f"the journal of draw {seed}", answers(bytes_of(journal)), answers(kept.lines))
 
 
 # The tables of version 1, and its rows after the first two sessions of above; their numbers are not the first ones.
 VERSION_1 = (
     "CREATE TABLE meta (name TEXT NOT NULL PRIMARY KEY, version INTEGER NOT NULL) STRICT",
-    "CREATE TABLE postings (id INTEGER PRIMARY KEY AUTOINCREMENT, account INTEGER NOT NULL, week INTEGER NOT NULL, through INTEGER NOT NULL, "
-    "version INTEGER NOT NULL, due INTEGER NOT NULL, amount INTEGER NOT NULL, UNIQUE (account, week, through, version)) STRICT",
-    "CREATE TABLE shares (posting INTEGER NOT NULL REFERENCES postings (id), operator INTEGER NOT NULL, amount INTEGER NOT NULL, "
-    "PRIMARY KEY (posting, operator)) STRICT",
-    "CREATE TABLE taps (account INTEGER NOT NULL, reader INTEGER NOT NULL, seq INTEGER NOT NULL, utc INTEGER NOT NULL, day INTEGER NOT NULL, "
-    "second INTEGER NOT NULL, place INTEGER NOT NULL, kind INTEGER NOT NULL, PRIMARY KEY (account, reader, seq)) STRICT",
-    "CREATE TABLE fixes (account INTEGER NOT NULL, staff INTEGER NOT NULL, seq INTEGER NOT NULL, what INTEGER NOT NULL, a INTEGER NOT NULL, "
-    "b INTEGER NOT NULL, c INTEGER NOT NULL, d INTEGER NOT NULL, e INTEGER NOT NULL, PRIMARY KEY (account, staff, seq)) STRICT",
+    "CREATE TABLE postings (id INTEGER PRIMARY KEY AUTOINCREMENT, account INTEGER NOT NULL, week INTEGER NOT NULL, "
+    "through INTEGER NOT NULL, version INTEGER NOT NULL, due INTEGER NOT NULL, amount INTEGER NOT NULL, "
+    "UNIQUE (account, week, through, version)) STRICT",
+    "CREATE TABLE shares (posting INTEGER NOT NULL REFERENCES postings (id), operator INTEGER NOT NULL, "
+    "amount INTEGER NOT NULL, PRIMARY KEY (posting, operator)) STRICT",
+    "CREATE TABLE taps (account INTEGER NOT NULL, reader INTEGER NOT NULL, seq INTEGER NOT NULL, utc INTEGER NOT NULL, "
+    "day INTEGER NOT NULL, second INTEGER NOT NULL, place INTEGER NOT NULL, kind INTEGER NOT NULL, "
+    "PRIMARY KEY (account, reader, seq)) STRICT",
+    "CREATE TABLE fixes (account INTEGER NOT NULL, staff INTEGER NOT NULL, seq INTEGER NOT NULL, "
+    "what INTEGER NOT NULL, a INTEGER NOT NULL, b INTEGER NOT NULL, c INTEGER NOT NULL, d INTEGER NOT NULL, "
+    "e INTEGER NOT NULL, PRIMARY KEY (account, staff, seq)) STRICT",
     "INSERT INTO meta VALUES ('farebox', 1)",
     "INSERT INTO postings VALUES (3, 7, 19730, 19730, 1, 860, 860), (5, 7, 19730, 19730, 2, 340, -520)",
     "INSERT INTO shares VALUES (3, 1, 860), (5, 1, -520)",
@@ -240,32 +303,6 @@ def by_sqlite3(path, *statements):
     return path
 
 
-@test
-def version_1(folder):
-    """A ledger of version 1 is copied when it is opened: what was posted stands as it stood, and is gone on with. Its own tables stay."""
-    for name, write in (("Python", others_database), ("sqlite3", by_sqlite3)):
-        path, journal = write(os.path.join(folder, name), *VERSION_1), written(folder, f"{name}.lines", JOURNAL_OF_VERSION_1)
-        words = with_ledger(path, journal, RUN_SAMPLE)
-        yield f"a ledger by {name}, no lines", closing(path, folder, run(words)), End(0, left=ROWS_COPIED)
-        lines, replies = session(THIRD_SESSION)
-        left = ROWS_AFTER_THIRD.replace(in_lines(map(repr, (FIRST_POSTING, SECOND_POSTING))), in_lines(map(repr, COPIED)))
-        yield f"a ledger by {name}, a session", closing(path, folder, but_for_closes(run(words, lines))), End(0, replies, left=left)
-        with contextlib.closing(sqlite3.connect(path)) as it:
-            found = it.execute("SELECT max(id) FROM postings2").fetchall() + it.execute("SELECT * FROM postings ORDER BY id").fetchall()
-        wanted = [(7,), (3, 7, 19730, 19730, 1, 860, 860), (5, 7, 19730, 19730, 2, 340, -520)]
-        yield f"a ledger by {name}, its own tables then", answers(repr(found).encode()), answers(repr(wanted).encode())
-    # A fault of the journal comes before the ledger is opened, and that of the ledger leaves it as it is.
-    path = others_database(os.path.join(folder, "kept"), *VERSION_1)
-    has = bytes_of(path)
-    yield "a bad line of the journal", run(with_ledger(path, written(folder, "bad.lines", b"fly\n"), RUN_SAMPLE)), bad_line(1, "50 BadLine")
-    yield "a bad line of the journal, the ledger then", answers(bytes_of(path)), answers(has)
-    for name, statement in (("a table of version 2", "CREATE TABLE shares2 (x)"), ("a table less", "DROP TABLE shares"), ("a view in its place", "DROP TABLE fixes; CREATE VIEW fixes AS SELECT 1")):
-        path = others_database(os.path.join(folder, name.replace(" ", "-")), *VERSION_1, statement)
-        has = bytes_of(path)
-        yield f"version 1 and {name}", run(with_ledger(path, written(folder, "own.lines", JOURNAL_OF_VERSION_1), RUN_SAMPLE)), NO_LEDGER
-        yield f"version 1 and {name}, the ledger then", answers(bytes_of(path)), answers(has)
-
-
 # How many accounts with a posting each a ledger of version 1 has whose copy is killed, and how often.
 MANY, KILLS = 2_000, 12
 
@@ -275,9 +312,13 @@ def many_of_version_1(path):
     numbers = range(1, MANY + 1)
     with contextlib.closing(sqlite3.connect(path)) as it:
         it.executescript(";".join(VERSION_1[:6]))
-        it.executemany("INSERT INTO postings VALUES (?, ?, 19730, 19730, 1, 175, 175)", ((number, number) for number in numbers))
+        it.executemany(
+            "INSERT INTO postings VALUES (?, ?, 19730, 19730, 1, 175, 175)", ((number, number) for number in numbers)
+        )
         it.executemany("INSERT INTO shares VALUES (?, 4, 175)", ((number,) for number in numbers))
-        it.executemany("INSERT INTO taps VALUES (?, 1, 1, 1704697200, 19730, 25200, 50, 2)", ((number,) for number in numbers))
+        it.executemany(
+            "INSERT INTO taps VALUES (?, 1, 1, 1704697200, 19730, 25200, 50, 2)", ((number,) for number in numbers)
+        )
         it.commit()
     return path, boardings(MANY)[0]
 
@@ -287,231 +328,384 @@ def copied_so_far(path):
     with contextlib.closing(sqlite3.connect(path)) as it:
         (version,), = it.execute("SELECT version FROM meta")
         (tables,), = it.execute("SELECT count(*) FROM sqlite_schema WHERE name IN ('postings2', 'shares2')")
-        counted = [it.execute(f"SELECT count(*), sum(amount) FROM {name}").fetchone() for name in ("postings2", "shares2")] if tables == 2 else tables
+        counted = [
+            it.execute(f"SELECT count(*), sum(amount) FROM {name}").fetchone() for name in ("postings2", "shares2")
+        ] if tables == 2 else tables
     return version, counted
 
 
-@test
-def killed_copies(folder):
-    """A copy that is killed at a random moment leaves version 1 or all of version 2, and the next start has version 2."""
-    first, lines = many_of_version_1(os.path.join(folder, "first"))
-    whole, draw = [(MANY, 175 * MANY)] * 2, random.Random(1)
-    words = with_ledger(os.path.join(folder, "ledger"), written(folder, "lines", lines))
-    for number in range(KILLS):
-        path = shutil.copyfile(first, os.path.join(folder, "ledger"))
-        missing(folder, "ledger-wal")
-        with subprocess.Popen([PROGRAM, *words], stdin=subprocess.PIPE, stdout=subprocess.DEVNULL) as ran:
-            time.sleep(draw.uniform(0, 0.4))
-            ran.kill()
-        found = copied_so_far(path)
-        yield f"kill {number}", answers(repr(found).encode()), answers(repr((2, whole) if found[0] == 2 else (1, 0)).encode())
-        yield f"kill {number}, the next start", run(words), answers(b"")
-        yield f"kill {number}, all rows then", answers(repr(copied_so_far(path)).encode()), answers(repr((2, whole)).encode())
+class Version1(Theme):
+    """Ledgers of version 1."""
 
-
-@test
-def files_that_are_no_ledger(folder):
-    """What is no ledger, or one of another version, stays as it is; a journal beside it too, and nothing is read of the input."""
-    lines, _ = boardings(2)
-    given = written(folder, "given", lines)
-    for name, path, wanted in refused_ledgers(folder):
+    def test_version_1(self):
+        """A ledger of version 1 is copied when it is opened: what was posted stands as it stood, and is gone on with.
+        Its own tables stay."""
+        for name, write in (("Python", others_database), ("sqlite3", by_sqlite3)):
+            path = write(os.path.join(self.folder, name), *VERSION_1)
+            journal = written(self.folder, f"{name}.lines", JOURNAL_OF_VERSION_1)
+            words = with_ledger(path, journal, RUN_SAMPLE)
+            self.check(
+                f"a ledger by {name}, no lines", closing(path, self.folder, run(words)), End(0, left=ROWS_COPIED)
+            )
+            lines, replies = session(THIRD_SESSION)
+            left = ROWS_AFTER_THIRD.replace(
+                in_lines(map(repr, (FIRST_POSTING, SECOND_POSTING))), in_lines(map(repr, COPIED))
+            )
+            self.check(
+                f"a ledger by {name}, a session",
+                closing(path, self.folder, but_for_closes(run(words, lines))),
+                End(0, replies, left=left),
+            )
+            with contextlib.closing(sqlite3.connect(path)) as it:
+                found = it.execute("SELECT max(id) FROM postings2").fetchall() + it.execute(
+                    "SELECT * FROM postings ORDER BY id"
+                ).fetchall()
+            wanted = [(7,), (3, 7, 19730, 19730, 1, 860, 860), (5, 7, 19730, 19730, 2, 340, -520)]
+            self.check(
+                f"a ledger by {name}, its own tables then",
+                answers(repr(found).encode()),
+                answers(repr(wanted).encode()),
+            )
+        # A fault of the journal comes before the ledger is opened, and that of the ledger leaves it as it is.
+        path = others_database(os.path.join(self.folder, "kept"), *VERSION_1)
         has = bytes_of(path)
-        journal = written(folder, "journal", lines + b"TAP 1 1 3 17046")
-        for words in (with_ledger(path), with_ledger(path, journal)):
-            yield name, run_file(words, given, leaves=True), wanted._replace(left=lines)
-        yield f"{name}, the journal then", answers(bytes_of(journal)), answers(lines + b"TAP 1 1 3 17046")
-        yield f"{name}, the file then", answers(bytes_of(path)), answers(has)
+        self.check(
+            "a bad line of the journal",
+            run(with_ledger(path, written(self.folder, "bad.lines", b"fly\n"), RUN_SAMPLE)),
+            bad_line(1, "50 BadLine"),
+        )
+        self.check("a bad line of the journal, the ledger then", answers(bytes_of(path)), answers(has))
+        for name, statement in (
+            ("a table of version 2", "CREATE TABLE shares2 (x)"),
+            ("a table less", "DROP TABLE shares"),
+            ("a view in its place", "DROP TABLE fixes; CREATE VIEW fixes AS SELECT 1"),
+        ):
+            path = others_database(os.path.join(self.folder, name.replace(" ", "-")), *VERSION_1, statement)
+            has = bytes_of(path)
+            self.check(
+                f"version 1 and {name}",
+                run(with_ledger(path, written(self.folder, "own.lines", JOURNAL_OF_VERSION_1), RUN_SAMPLE)),
+                NO_LEDGER,
+            )
+            self.check(f"version 1 and {name}, the ledger then", answers(bytes_of(path)), answers(has))
+
+    def test_killed_copies(self):
+        """A copy that is killed at a random moment leaves version 1 or all of version 2, and the next start has version
+        2."""
+        first, lines = many_of_version_1(os.path.join(self.folder, "first"))
+        whole, draw = [(MANY, 175 * MANY)] * 2, random.Random(1)
+        words = with_ledger(os.path.join(self.folder, "ledger"), written(self.folder, "lines", lines))
+        for number in range(KILLS):
+            path = shutil.copyfile(first, os.path.join(self.folder, "ledger"))
+            missing(self.folder, "ledger-wal")
+            with subprocess.Popen([PROGRAM, *words], stdin=subprocess.PIPE, stdout=subprocess.DEVNULL) as ran:
+                time.sleep(draw.uniform(0, 0.4))
+                ran.kill()
+            found = copied_so_far(path)
+            self.check(
+                f"kill {number}",
+                answers(repr(found).encode()),
+                answers(repr((2, whole) if found[0] == 2 else (1, 0)).encode()),
+            )
+            self.check(f"kill {number}, the next start", run(words), answers(b""))
+            self.check(
+                f"kill {number}, all rows then",
+                answers(repr(copied_so_far(path)).encode()),
+                answers(repr((2, whole)).encode()),
+            )
 
 
-@test
-def databases_of_others(folder):
-    """A ledger is made in a database that has none of its tables, and in an empty file; what is there stays."""
-    lines, replies = session(FIRST_SESSION)
-    path = others_database(os.path.join(folder, "other"), "CREATE TABLE notes (text TEXT)", "INSERT INTO notes VALUES ('as it was')")
-    for name, it in (("a database of others", path), ("an empty file", written(folder, "empty", b""))):
-        came = closing(it, folder, run(with_ledger(it, os.path.join(folder, f"{os.path.basename(it)}.lines"), RUN_SAMPLE), lines))
-        yield name, came, End(0, replies, left=ROWS_AFTER_FIRST)
-    with contextlib.closing(sqlite3.connect(path)) as it:
-        notes = it.execute("SELECT text FROM notes").fetchall()
-    yield "what others have in it", answers(repr(notes).encode()), answers(b"[('as it was',)]")
+class Files(Theme):
+    """What may be a ledger, and who may have it."""
 
+    def test_files_that_are_no_ledger(self):
+        """What is no ledger, or one of another version, stays as it is; a journal beside it too, and nothing is read of
+        the input."""
+        lines, _ = boardings(2)
+        given = written(self.folder, "given", lines)
+        for name, path, wanted in refused_ledgers(self.folder):
+            has = bytes_of(path)
+            journal = written(self.folder, "journal", lines + b"TAP 1 1 3 17046")
+            for words in (with_ledger(path), with_ledger(path, journal)):
+                self.check(name, run_file(words, given, leaves=True), wanted._replace(left=lines))
+            self.check(f"{name}, the journal then", answers(bytes_of(journal)), answers(lines + b"TAP 1 1 3 17046"))
+            self.check(f"{name}, the file then", answers(bytes_of(path)), answers(has))
 
-@test
-def owners(folder):
-    """What is made is its owner's alone, also where the mask lets everybody: journal, ledger and the log beside it. What is there keeps its mode."""
-    lines, replies = session(FIRST_SESSION)
-    for name, modes in (("made", b"600 600 600"), ("there", b"640 640 640")):
-        ledger, journal = os.path.join(folder, f"ledger-{name}"), os.path.join(folder, f"journal-{name}")
-        if name == "there":
-            for path in (ledger, journal):
-                os.chmod(written(folder, os.path.basename(path), b""), 0o640)
-        yield f"files that are {name}", run(with_ledger(ledger, journal, RUN_SAMPLE), lines, umask=0), answers(replies)
-        found = " ".join(f"{os.stat(path).st_mode & 0o777:o}" for path in (journal, ledger, f"{ledger}-wal"))
-        yield f"the modes of files that are {name}", answers(found.encode()), answers(modes)
+    def test_databases_of_others(self):
+        """A ledger is made in a database that has none of its tables, and in an empty file; what is there stays."""
+        lines, replies = session(FIRST_SESSION)
+        path = others_database(
+            os.path.join(self.folder, "other"),
+            "CREATE TABLE notes (text TEXT)",
+            "INSERT INTO notes VALUES ('as it was')",
+        )
+        for name, it in (("a database of others", path), ("an empty file", written(self.folder, "empty", b""))):
+            came = closing(
+                it,
+                self.folder,
+                run(with_ledger(it, os.path.join(self.folder, f"{os.path.basename(it)}.lines"), RUN_SAMPLE), lines),
+            )
+            self.check(name, came, End(0, replies, left=ROWS_AFTER_FIRST))
+        with contextlib.closing(sqlite3.connect(path)) as it:
+            notes = it.execute("SELECT text FROM notes").fetchall()
+        self.check("what others have in it", answers(repr(notes).encode()), answers(b"[('as it was',)]"))
 
+    def test_owners(self):
+        """What is made is its owner's alone, also where the mask lets everybody: journal, ledger and the log beside it.
+        What is there keeps its mode."""
+        lines, replies = session(FIRST_SESSION)
+        for name, modes in (("made", b"600 600 600"), ("there", b"640 640 640")):
+            ledger, journal = os.path.join(self.folder, f"ledger-{name}"), os.path.join(self.folder, f"journal-{name}")
+            if name == "there":
+                for path in (ledger, journal):
+                    os.chmod(written(self.folder, os.path.basename(path), b""), 0o640)
+            self.check(
+                f"files that are {name}",
+                run(with_ledger(ledger, journal, RUN_SAMPLE), lines, umask=0),
+                answers(replies),
+            )
+            found = " ".join(f"{os.stat(path).st_mode & 0o777:o}" for path in (journal, ledger, f"{ledger}-wal"))
+            self.check(f"the modes of files that are {name}", answers(found.encode()), answers(modes))
 
-@test
-def ledgers_that_cannot_be(folder):
-    """What cannot be made, opened or locked: nothing is read of the input."""
-    lines, _ = boardings(2)
-    given = written(folder, "given", lines)
-    no_files = [("a folder", folder), ("a file in no folder", os.path.join(folder, "no", "ledger")), ("no name", "")]
-    no_files += [("a file below a file", os.path.join(given, "ledger")), ("a name that is too long", os.path.join(folder, "l" * 256))]
-    # For who may do all no file is closed.
-    if os.geteuid():
-        os.chmod(written(folder, "unreadable", b""), stat.S_IWUSR)
-        no_files.append(("a file that is for writing", os.path.join(folder, "unreadable")))
-    for name, path in no_files:
-        yield name, run_file(with_ledger(path), given, leaves=True), STORE._replace(left=lines)
+    def test_ledgers_that_cannot_be(self):
+        """What cannot be made, opened or locked: nothing is read of the input."""
+        lines, _ = boardings(2)
+        given = written(self.folder, "given", lines)
+        no_files = [
+            ("a folder", self.folder),
+            ("a file in no folder", os.path.join(self.folder, "no", "ledger")),
+            ("no name", ""),
+        ]
+        no_files += [
+            ("a file below a file", os.path.join(given, "ledger")),
+            ("a name that is too long", os.path.join(self.folder, "l" * 256)),
+        ]
+        # For who may do all no file is closed.
+        if os.geteuid():
+            os.chmod(written(self.folder, "unreadable", b""), stat.S_IWUSR)
+            no_files.append(("a file that is for writing", os.path.join(self.folder, "unreadable")))
+        for name, path in no_files:
+            self.check(name, run_file(with_ledger(path), given, leaves=True), STORE._replace(left=lines))
 
+    def test_journals_as_ledgers(self):
+        """No ledger is opened in the file of a journal, nor where that is its log, by whatever name it is called:
+        nothing is read or written."""
+        lines, _ = boardings(2)
+        given, line = written(self.folder, "given", lines), lines[:lines.index(b"\n") + 1]
+        os.symlink("linked", os.path.join(self.folder, "link"))
+        for name, journal, ledger in (
+            ("its file", "same", "same"), ("its log", "other-wal", "other"), ("a link", "linked", "link")
+        ):
+            journal, ledger = os.path.join(self.folder, journal), os.path.join(self.folder, ledger)
+            self.check(
+                f"{name}, which is made",
+                run_file(with_ledger(ledger, journal), given, leaves=True),
+                STORE._replace(left=lines),
+            )
+            self.check(f"{name}, as it is left", answers(bytes_of(journal)), answers(b""))
+            written(self.folder, os.path.basename(journal), line)
+            self.check(
+                f"{name} with a line",
+                run_file(with_ledger(ledger, journal), given, leaves=True),
+                STORE._replace(left=lines),
+            )
+            self.check(f"{name} with a line, as it is left", answers(bytes_of(journal)), answers(line))
+        # A ledger's log lies beside the file to which a link leads.
+        alias, log = os.path.join(self.folder, "alias"), os.path.join(self.folder, "aliased-wal")
+        os.symlink("aliased", alias)
+        run(with_ledger(os.path.join(self.folder, "aliased")))
+        written(self.folder, "aliased-wal", line)
+        self.check(
+            "its log by a link", run_file(with_ledger(alias, log), given, leaves=True), STORE._replace(left=lines)
+        )
+        with started([*RUN, "--journal", log]) as ran:
+            ran.stdin.write(line)
+            heard(ran.stdout, len(b"AGAIN 19730 175 175\n"))
+            self.check(
+                "its log by a link, of another session",
+                run_file(with_ledger(alias), given, leaves=True),
+                STORE._replace(left=lines),
+            )
+        self.check("its log by a link, as it is left", answers(bytes_of(log)), answers(line))
+        beside = os.path.join(self.folder, "beside")
+        with started([*RUN, "--journal", beside]) as ran:
+            ran.stdin.write(line)
+            output = heard(ran.stdout, len(b"OK 19730 175 175\n"))
+            self.check(
+                "that of another session", run_file(with_ledger(beside), given, leaves=True), STORE._replace(left=lines)
+            )
+            ran.stdin.close()
+            self.check(
+                "the other session",
+                end_of(ran, output)._replace(left=bytes_of(beside)),
+                End(0, b"OK 19730 175 175\n", left=line),
+            )
 
-@test
-def journals_as_ledgers(folder):
-    """No ledger is opened in the file of a journal, nor where that is its log, by whatever name it is called: nothing is read or written."""
-    lines, _ = boardings(2)
-    given, line = written(folder, "given", lines), lines[:lines.index(b"\n") + 1]
-    os.symlink("linked", os.path.join(folder, "link"))
-    for name, journal, ledger in (("its file", "same", "same"), ("its log", "other-wal", "other"), ("a link", "linked", "link")):
-        journal, ledger = os.path.join(folder, journal), os.path.join(folder, ledger)
-        yield f"{name}, which is made", run_file(with_ledger(ledger, journal), given, leaves=True), STORE._replace(left=lines)
-        yield f"{name}, as it is left", answers(bytes_of(journal)), answers(b"")
-        written(folder, os.path.basename(journal), line)
-        yield f"{name} with a line", run_file(with_ledger(ledger, journal), given, leaves=True), STORE._replace(left=lines)
-        yield f"{name} with a line, as it is left", answers(bytes_of(journal)), answers(line)
-    # A ledger's log lies beside the file to which a link leads.
-    alias, log = os.path.join(folder, "alias"), os.path.join(folder, "aliased-wal")
-    os.symlink("aliased", alias)
-    run(with_ledger(os.path.join(folder, "aliased")))
-    written(folder, "aliased-wal", line)
-    yield "its log by a link", run_file(with_ledger(alias, log), given, leaves=True), STORE._replace(left=lines)
-    with started([*RUN, "--journal", log]) as ran:
-        ran.stdin.write(line)
-        heard(ran.stdout, len(b"AGAIN 19730 175 175\n"))
-        yield "its log by a link, of another session", run_file(with_ledger(alias), given, leaves=True), STORE._replace(left=lines)
-    yield "its log by a link, as it is left", answers(bytes_of(log)), answers(line)
-    beside = os.path.join(folder, "beside")
-    with started([*RUN, "--journal", beside]) as ran:
-        ran.stdin.write(line)
-        output = heard(ran.stdout, len(b"OK 19730 175 175\n"))
-        yield "that of another session", run_file(with_ledger(beside), given, leaves=True), STORE._replace(left=lines)
-        ran.stdin.close()
-        yield "the other session", end_of(ran, output)._replace(left=bytes_of(beside)), End(0, b"OK 19730 175 175\n", left=line)
+    def test_one_session_at_a_time(self):
+        """While a session has a ledger no other one opens it, nor while SQLite writes it; a statement of its journal is
+        told all the same."""
+        (lines, replies), (path, journal) = session(SECOND_SESSION), opened_ledger(self.folder, "ledger")
+        given = written(self.folder, "given", lines)
+        with started(with_ledger(path, journal, RUN_SAMPLE)) as ran:
+            ran.stdin.write(lines)
+            output = heard(ran.stdout, len(replies))
+            for name, words in (
+                ("no journal", with_ledger(path)),
+                ("a journal of its own", with_ledger(path, os.path.join(self.folder, "other"))),
+            ):
+                self.check(
+                    f"a second session with {name}", run_file(words, given, leaves=True), STORE._replace(left=lines)
+                )
+            self.check(
+                "a second session with its journal",
+                run_file(with_ledger(path, journal), given, leaves=True),
+                CANNOT_USE._replace(left=lines),
+            )
+            # Both taps of the journal, at 07:00 and at 07:30.
+            self.check(
+                "a replay beside a session",
+                replayed(journal),
+                answers(b"OK lines 2 accounts 1 from 1704697200 to 1704699000\n"),
+            )
+            wanted = rows_of_statement("19730,RAIL,10,12,07:00:00,340,-")
+            self.check("a statement beside a session", run([*STATE, "--journal", journal]), wanted)
+            ran.stdin.close()
+            self.check(
+                "the first session",
+                closing(path, self.folder, end_of(ran, output)),
+                End(0, replies, left=ROWS_AFTER_SECOND),
+            )
+        with contextlib.closing(sqlite3.connect(path)) as writer:
+            writer.execute("BEGIN EXCLUSIVE")
+            self.check(
+                "beside SQLite",
+                run_file(with_ledger(path, journal, RUN_SAMPLE), given, leaves=True),
+                STORE._replace(left=lines),
+            )
 
+    def test_killed_after_a_close(self):
+        """What was posted by a session that is killed stands in the file and its log, which SQLite reads together and
+        no one else opens meanwhile."""
+        (path, journal), (lines, replies) = opened_ledger(self.folder, "ledger"), session(SECOND_SESSION)
+        with started(with_ledger(path, journal, RUN_SAMPLE)) as ran:
+            ran.stdin.write(lines)
+            self.check("a session that is killed", answers(heard(ran.stdout, len(replies))), answers(replies))
+            with contextlib.closing(
+                sqlite3.connect(path, timeout=0)
+            ) as other, contextlib.suppress(sqlite3.OperationalError):
+                self.check(
+                    "SQLite beside it",
+                    answers(repr(other.execute("SELECT * FROM postings2").fetchall()).encode()),
+                    answers(b"it is locked"),
+                )
+            ran.kill()
+            ran.wait()
+        self.check("the rows by SQLite", answers(rows_of_ledger(path)), answers(ROWS_AFTER_SECOND))
+        lines, replies = session(THIRD_SESSION)
+        came = but_for_closes(run(with_ledger(path, journal, RUN_SAMPLE), lines))
+        self.check("the next session", closing(path, self.folder, came), End(0, replies, left=ROWS_AFTER_THIRD))
 
-@test
-def one_session_at_a_time(folder):
-    """While a session has a ledger no other one opens it, nor while SQLite writes it; a statement of its journal is told all the same."""
-    (lines, replies), (path, journal) = session(SECOND_SESSION), opened_ledger(folder, "ledger")
-    given = written(folder, "given", lines)
-    with started(with_ledger(path, journal, RUN_SAMPLE)) as ran:
-        ran.stdin.write(lines)
-        output = heard(ran.stdout, len(replies))
-        for name, words in (("no journal", with_ledger(path)), ("a journal of its own", with_ledger(path, os.path.join(folder, "other")))):
-            yield f"a second session with {name}", run_file(words, given, leaves=True), STORE._replace(left=lines)
-        yield "a second session with its journal", run_file(with_ledger(path, journal), given, leaves=True), CANNOT_USE._replace(left=lines)
-        # Both taps of the journal, at 07:00 and at 07:30.
-        yield "a replay beside a session", replayed(journal), answers(b"OK lines 2 accounts 1 from 1704697200 to 1704699000\n")
-        wanted = rows_of_statement("19730,RAIL,10,12,07:00:00,340,-")
-        yield "a statement beside a session", run([*STATE, "--journal", journal]), wanted
-        ran.stdin.close()
-        yield "the first session", closing(path, folder, end_of(ran, output)), End(0, replies, left=ROWS_AFTER_SECOND)
-    with contextlib.closing(sqlite3.connect(path)) as writer:
-        writer.execute("BEGIN EXCLUSIVE")
-        yield "beside SQLite", run_file(with_ledger(path, journal, RUN_SAMPLE), given, leaves=True), STORE._replace(left=lines)
-
-
-@test
-def killed_after_a_close(folder):
-    """What was posted by a session that is killed stands in the file and its log, which SQLite reads together and no one else opens meanwhile."""
-    (path, journal), (lines, replies) = opened_ledger(folder, "ledger"), session(SECOND_SESSION)
-    with started(with_ledger(path, journal, RUN_SAMPLE)) as ran:
-        ran.stdin.write(lines)
-        yield "a session that is killed", answers(heard(ran.stdout, len(replies))), answers(replies)
-        with contextlib.closing(sqlite3.connect(path, timeout=0)) as other, contextlib.suppress(sqlite3.OperationalError):
-            yield "SQLite beside it", answers(repr(other.execute("SELECT * FROM postings2").fetchall()).encode()), answers(b"it is locked")
-        ran.kill()
-        ran.wait()
-    yield "the rows by SQLite", answers(rows_of_ledger(path)), answers(ROWS_AFTER_SECOND)
-    lines, replies = session(THIRD_SESSION)
-    came = but_for_closes(run(with_ledger(path, journal, RUN_SAMPLE), lines))
-    yield "the next session", closing(path, folder, came), End(0, replies, left=ROWS_AFTER_THIRD)
-
-
-@test
-def first_fault(folder):
-    """A ledger is opened after the fare file, the zone and the journal, of which a line that is not accepted is told first."""
-    text, lines = written(folder, "text", b"no ledger"), boardings(2)[0]
-    good, bad, none = written(folder, "good", lines), written(folder, "bad", lines + b"fly\n"), os.path.join(folder, "no", "journal")
-    path, _ = opened_ledger(folder, "ledger")
-    for name, words, wanted in (
-        ("no fare file", ["run", MISSING, LONDON, "--journal", bad, "--ledger", text], fault("cannot read fares")),
-        ("no journal", ["run", FARES, "no zone", "--journal", none, "--ledger", text], CANNOT_USE),
-        ("a bad zone", ["run", FARES, "no zone", "--journal", bad, "--ledger", text], fault("bad zone")),
-        ("a bad line", with_ledger(text, bad), bad_line(3, "50 BadLine")), ("no ledger", with_ledger(text, good), NO_LEDGER),
-        ("a bad line of an empty journal's ledger", with_ledger(path, written(folder, "first", b"fly\n")), bad_line(1, "50 BadLine")),
-    ):
-        yield f"{name}, and a file that is no ledger", run(words, lines), wanted
-    refused = written(folder, "refused", edited("hopper = 3600", "hopper = 0"))
-    for name, words, wanted in (
-        ("a refused fare file", ["run", refused, LONDON, "--journal", good, "--ledger", good], fault("13 OutOfRange")),
-        ("a bad zone", ["run", FARES, "no zone", "--journal", good, "--ledger", good], fault("bad zone")),
-        ("a bad line", with_ledger(bad, bad), bad_line(3, "50 BadLine")), ("no fault before it", with_ledger(good, good), STORE),
-    ):
-        yield f"{name}, and a ledger that is the journal", run(words, lines), wanted
-    made = missing(folder, "made")
-    yield "a bad line, and no ledger", run(with_ledger(made, bad)), bad_line(3, "50 BadLine")
-    yield "a bad line, and no ledger: none is made", answers(bytes_of(made)), answers(None)
+    def test_first_fault(self):
+        """A ledger is opened after the fare file, the zone and the journal, of which a line that is not accepted is
+        told first."""
+        text, lines = written(self.folder, "text", b"no ledger"), boardings(2)[0]
+        good = written(self.folder, "good", lines)
+        bad = written(self.folder, "bad", lines + b"fly\n")
+        none = os.path.join(self.folder, "no", "journal")
+        path, _ = opened_ledger(self.folder, "ledger")
+        for name, words, wanted in (
+            ("no fare file", ["run", MISSING, LONDON, "--journal", bad, "--ledger", text], fault("cannot read fares")),
+            ("no journal", ["run", FARES, "no zone", "--journal", none, "--ledger", text], CANNOT_USE),
+            ("a bad zone", ["run", FARES, "no zone", "--journal", bad, "--ledger", text], fault("bad zone")),
+            ("a bad line", with_ledger(text, bad), bad_line(3, "50 BadLine")),
+            ("no ledger", with_ledger(text, good), NO_LEDGER),
+            (
+                "a bad line of an empty journal's ledger",
+                with_ledger(path, written(self.folder, "first", b"fly\n")),
+                bad_line(1, "50 BadLine"),
+            ),
+        ):
+            self.check(f"{name}, and a file that is no ledger", run(words, lines), wanted)
+        refused = written(self.folder, "refused", edited("hopper = 3600", "hopper = 0"))
+        for name, words, wanted in (
+            (
+                "a refused fare file",
+                ["run", refused, LONDON, "--journal", good, "--ledger", good],
+                fault("13 OutOfRange"),
+            ),
+            ("a bad zone", ["run", FARES, "no zone", "--journal", good, "--ledger", good], fault("bad zone")),
+            ("a bad line", with_ledger(bad, bad), bad_line(3, "50 BadLine")),
+            ("no fault before it", with_ledger(good, good), STORE),
+        ):
+            self.check(f"{name}, and a ledger that is the journal", run(words, lines), wanted)
+        made = missing(self.folder, "made")
+        self.check("a bad line, and no ledger", run(with_ledger(made, bad)), bad_line(3, "50 BadLine"))
+        self.check("a bad line, and no ledger: none is made", answers(bytes_of(made)), answers(None))
 
 
 MANY = 1_000
 
 
-@test
-def full_files(folder):
-    """A close for which its ledger has no room is refused by 43, and posts nothing; the session goes on, and posts it once there is room."""
-    path, journal = opened_ledger(folder, "ledger")
-    accounts = range(8, MANY + 8)
-    lines = in_lines(f"TAP 2 1 {account} 1704697200 50 BUS" for account in accounts)
-    replies = b"OK 19730 175 175\n" * MANY
-    paid = b"".join(b"PAY %d 19730 19730 1 175 175 4=175\n" % account for account in accounts)
-    paid = b"PAY 7 19730 19730 1 860 860 1=860\n" + paid + b"DONE 19730 %d\n" % (MANY + 1)
-    # The journal has room for all lines, and the ledger not for what is posted: a row of each account in three tables.
-    room = max(2 * len(lines), os.path.getsize(path) + (32 << 10))
-    asked, told = b"CLOSE 19730\nDUE 7 19730\nCLOSE 19730\n", b"NO 43 Store\nDUE 7 19730 19730 1 860 1=860\nNO 43 Store\n"
-    came = run(with_ledger(path, journal, RUN_SAMPLE), lines + asked, **limited_to(room))
-    yield "a close without room", but_for_closes(came), answers(replies + told)
-    yield "a close without room, the rows then", answers(copied_rows(path, folder)), answers(ROWS_AFTER_FIRST)
-    with started(with_ledger(path, journal, RUN_SAMPLE), **limited_to(room, resource.RLIM_INFINITY)) as ran:
-        ran.stdin.write(b"CLOSE 19730\n")
-        output = heard(ran.stdout, len(b"NO 43 Store\n"))
-        resource.prlimit(ran.pid, resource.RLIMIT_FSIZE, (resource.RLIM_INFINITY, resource.RLIM_INFINITY))
-        ran.stdin.write(b"CLOSE 19730\n")
-        ran.stdin.close()
-        yield "a close without room, and one with room", but_for_closes(end_of(ran, output)), answers(b"NO 43 Store\n" + paid)
-    left = rows(
-        FIRST_POSTING, *((it, 19730, 19730, 1, 175, 175, 4) for it in accounts), FIRST_SHARE, *((it, 1, 19730, 4, 175) for it in accounts),
-        FIRST_TAP, *((it, 2, 1, 1704697200, 19730, 25200, 50, 2) for it in accounts),
-    )
-    yield "with room, the rows then", answers(copied_rows(path, folder)), answers(left)
-    yield "the next session", run(with_ledger(path, journal, RUN_SAMPLE), b"CLOSE 19730\n"), answers(paid)
+class FullFiles(Theme):
+    """Files without room."""
+
+    def test_full_files(self):
+        """A close for which its ledger has no room is refused by 43, and posts nothing; the session goes on, and posts
+        it once there is room."""
+        path, journal = opened_ledger(self.folder, "ledger")
+        accounts = range(8, MANY + 8)
+        lines = in_lines(f"TAP 2 1 {account} 1704697200 50 BUS" for account in accounts)
+        replies = b"OK 19730 175 175\n" * MANY
+        paid = b"".join(b"PAY %d 19730 19730 1 175 175 4=175\n" % account for account in accounts)
+        paid = b"PAY 7 19730 19730 1 860 860 1=860\n" + paid + b"DONE 19730 %d\n" % (MANY + 1)
+        # The journal has room for all lines, and the ledger not for what is posted: a row of each account in three
+        # tables.
+        room = max(2 * len(lines), os.path.getsize(path) + (32 << 10))
+        asked = b"CLOSE 19730\nDUE 7 19730\nCLOSE 19730\n"
+        told = b"NO 43 Store\nDUE 7 19730 19730 1 860 1=860\nNO 43 Store\n"
+        came = run(with_ledger(path, journal, RUN_SAMPLE), lines + asked, **limited_to(room))
+        self.check("a close without room", but_for_closes(came), answers(replies + told))
+        self.check(
+            "a close without room, the rows then", answers(copied_rows(path, self.folder)), answers(ROWS_AFTER_FIRST)
+        )
+        with started(with_ledger(path, journal, RUN_SAMPLE), **limited_to(room, resource.RLIM_INFINITY)) as ran:
+            ran.stdin.write(b"CLOSE 19730\n")
+            output = heard(ran.stdout, len(b"NO 43 Store\n"))
+            resource.prlimit(ran.pid, resource.RLIMIT_FSIZE, (resource.RLIM_INFINITY, resource.RLIM_INFINITY))
+            ran.stdin.write(b"CLOSE 19730\n")
+            ran.stdin.close()
+            self.check(
+                "a close without room, and one with room",
+                but_for_closes(end_of(ran, output)),
+                answers(b"NO 43 Store\n" + paid),
+            )
+        left = rows(
+            FIRST_POSTING, *((it, 19730, 19730, 1, 175, 175, 4) for it in accounts), FIRST_SHARE,
+            *((it, 1, 19730, 4, 175) for it in accounts),
+            FIRST_TAP, *((it, 2, 1, 1704697200, 19730, 25200, 50, 2) for it in accounts),
+        )
+        self.check("with room, the rows then", answers(copied_rows(path, self.folder)), answers(left))
+        self.check("the next session", run(with_ledger(path, journal, RUN_SAMPLE), b"CLOSE 19730\n"), answers(paid))
+
+    def test_no_room_for_a_ledger(self):
+        """Where a ledger cannot be made for want of room, the session does not begin."""
+        lines, _ = boardings(2)
+        given = written(self.folder, "given", lines)
+        for room in (0, 100, 5_000):
+            path = missing(self.folder, "ledger")
+            missing(self.folder, "ledger-wal")
+            self.check(
+                f"room for {room} bytes",
+                run_file(with_ledger(path), given, leaves=True, **limited_to(room)),
+                STORE._replace(left=lines),
+            )
+        self.check("and then room for all", run(with_ledger(path), lines), answers(boardings(2)[1]))
 
 
-@test
-def no_room_for_a_ledger(folder):
-    """Where a ledger cannot be made for want of room, the session does not begin."""
-    lines, _ = boardings(2)
-    given = written(folder, "given", lines)
-    for room in (0, 100, 5_000):
-        path = missing(folder, "ledger")
-        missing(folder, "ledger-wal")
-        yield f"room for {room} bytes", run_file(with_ledger(path), given, leaves=True, **limited_to(room)), STORE._replace(left=lines)
-    yield "and then room for all", run(with_ledger(path), lines), answers(boardings(2)[1])
-
-
-# Two closes with a tap before each; and the ways in which a session may end whose disk fails from some moment on, in the order of these
-# moments, each with whether the first close may be posted: none begins; and then, by the replies, the journal is not settled before a close,
-# or the ledger does not keep what is posted, which it may have all the same; at last the journal is not settled in the end, or only what
-# the ledger's log has is not copied.
+# Two closes with a tap before each; and the ways in which a session may end whose disk fails from some moment on, in
+# the order of these moments, each with whether the first close may be posted: none begins; and then, by the replies,
+# the journal is not settled before a close, or the ledger does not keep what is posted, which it may have all the same;
+# at last the journal is not settled in the end, or only what the ledger's log has is not copied.
 TWO_CLOSES = (
     ("TAP 1 1 7 1704697200 10 IN", "OK 19730 860 860"),
     ("CLOSE 19730", "PAY 7 19730 19730 1 860 860 1=860\nDONE 19730 1"),
@@ -537,42 +731,52 @@ ENDS_OF_DISKS = (
 )
 
 
-@test
-def disks_that_fail(folder):
-    """A disk that fails from some moment on, the first, the second, ..: a close that is answered stays, and the next session goes on."""
-    library, ends, count = preloaded(folder), [end for end, _ in ENDS_OF_DISKS], 0
-    seen, is_copied = [], False
-    while not is_copied:
-        path, journal = (os.path.join(folder, f"{name}{count}") for name in ("ledger", "journal"))
-        with_disk = {"env": {"LD_PRELOAD": library, "SETTLED": str(count)}}
-        came = but_for_closes(run(with_ledger(path, journal, RUN_SAMPLE), CLOSE_LINES, **with_disk))
-        # It comes to what it came to with a sync less, or to the next that it may come to.
-        at = ends.index(came) if came in ends else len(ends)
-        last = seen[-1] if seen else 0
-        yield f"{count} syncs", came, came if at < len(ends) and at in (last, last + 1) else ends[last]
-        if at == len(ends):
-            return
-        seen.append(at)
-        is_copied = at == len(ends) - 1 and os.path.getsize(f"{path}-wal") < os.path.getsize(path)
-        again = run(with_ledger(path, journal, RUN_SAMPLE), CLOSE_LINES)
-        right = [answers(reply.encode()) for reply in ENDS_OF_DISKS[at][1]]
-        told = again._replace(output=b"\n".join(again.output.splitlines()[-2:]))
-        yield f"{count} syncs, and then the same lines once more", told, told if told in right else right[0]
-        count += 1
-    yield "each way to end was seen", answers(repr(sorted(set(seen))).encode()), answers(repr(list(range(len(ends)))).encode())
+class FailingDisks(Theme):
+    """Disks that fail."""
+
+    def test_disks_that_fail(self):
+        """A disk that fails from some moment on, the first, the second, ..: a close that is answered stays, and the
+        next session goes on."""
+        library, ends, count = preloaded(self.folder), [end for end, _ in ENDS_OF_DISKS], 0
+        seen, is_copied = [], False
+        while not is_copied:
+            path, journal = (os.path.join(self.folder, f"{name}{count}") for name in ("ledger", "journal"))
+            with_disk = {"env": {"LD_PRELOAD": library, "SETTLED": str(count)}}
+            came = but_for_closes(run(with_ledger(path, journal, RUN_SAMPLE), CLOSE_LINES, **with_disk))
+            # It comes to what it came to with a sync less, or to the next that it may come to.
+            at = ends.index(came) if came in ends else len(ends)
+            last = seen[-1] if seen else 0
+            self.check(f"{count} syncs", came, came if at < len(ends) and at in (last, last + 1) else ends[last])
+            if at == len(ends):
+                return
+            seen.append(at)
+            is_copied = at == len(ends) - 1 and os.path.getsize(f"{path}-wal") < os.path.getsize(path)
+            again = run(with_ledger(path, journal, RUN_SAMPLE), CLOSE_LINES)
+            right = [answers(reply.encode()) for reply in ENDS_OF_DISKS[at][1]]
+            told = again._replace(output=b"\n".join(again.output.splitlines()[-2:]))
+            self.check(f"{count} syncs, and then the same lines once more", told, told if told in right else right[0])
+            count += 1
+        self.check(
+            "each way to end was seen",
+            answers(repr(sorted(set(seen))).encode()),
+            answers(repr(list(range(len(ends)))).encode()),
+        )
 
 
 # By what a tap and a close for which memory is refused may be answered.
 NO_MEMORY, NOT_CLOSED = b"NO 90 Memory\n", (b"NO 90 Memory\n", b"NO 43 Store\n", b"NO 44 DeskFault\n")
 CLOSE_COMMANDS = (
-    rules.Tap(1704697200, 1, 1, 7, 10, "IN"), rules.Close(19730), rules.Tap(1704699000, 1, 2, 7, 12, "OUT"), rules.Close(19730),
+    rules.Tap(1704697200, 1, 1, 7, 10, "IN"), rules.Close(19730), rules.Tap(1704699000, 1, 2, 7, 12, "OUT"),
+    rules.Close(19730),
 )
 
 
 def ends_without_memory():
-    """How a session of these lines may end, one of which is refused for memory, or none; beside what is then kept. A close that is refused
-    for want of the store may be posted all the same."""
-    for refused, answer in ((None, b""), *((at, answer) for at in range(4) for answer in (NOT_CLOSED if at % 2 else [NO_MEMORY]))):
+    """How a session of these lines may end, one of which is refused for memory, or none; beside what is then kept. A
+    close that is refused for want of the store may be posted all the same."""
+    for refused, answer in (
+        (None, b""), *((at, answer) for at in range(4) for answer in (NOT_CLOSED if at % 2 else [NO_MEMORY]))
+    ):
         for is_posted in (False, True)[:1 + answer.startswith(b"NO 43")]:
             kept, replies = Kept(), b""
             for at, command in enumerate(CLOSE_COMMANDS):
@@ -587,20 +791,24 @@ def ends_without_memory():
 PASSED = 61
 
 
-@test
-def memory_that_is_refused(folder):
-    """Memory is refused once: a line is refused, or the session does not begin; and the next one is right."""
-    library, number, was_refused, all_ends = preloaded(folder), 1, True, list(ends_without_memory())
-    while was_refused:
-        path, journal = os.path.join(folder, f"ledger{number}"), os.path.join(folder, f"journal{number}")
-        with tempfile.TemporaryFile() as told:
-            around = {"LD_PRELOAD": library, "FIRST": str(number), "LAST": str(number), "TELL": str(told.fileno())}
-            came = but_for_closes(run(with_ledger(path, journal, RUN_SAMPLE), CLOSE_LINES, env=around, pass_fds=[told.fileno()]))
-            was_refused = os.fstat(told.fileno()).st_size > 0
-        ends = [copy.deepcopy(kept) for end, kept in all_ends if end == came]
-        right = answers(session(TWO_CLOSES)[1])
-        yield f"allocation {number} is refused", came, came if ends and was_refused else right
-        again = run(with_ledger(path, journal, RUN_SAMPLE), CLOSE_LINES)
-        rights = [answers(b"".join(map(kept.reply, CLOSE_COMMANDS))) for kept in ends]
-        yield f"the next session, when allocation {number} was", again, again if again in rights else right
-        number += PASSED
+class Memory(Theme):
+    """Want of memory."""
+
+    def test_memory_that_is_refused(self):
+        """Memory is refused once: a line is refused, or the session does not begin; and the next one is right."""
+        library, number, was_refused, all_ends = preloaded(self.folder), 1, True, list(ends_without_memory())
+        while was_refused:
+            path, journal = os.path.join(self.folder, f"ledger{number}"), os.path.join(self.folder, f"journal{number}")
+            with tempfile.TemporaryFile() as told:
+                around = {"LD_PRELOAD": library, "FIRST": str(number), "LAST": str(number), "TELL": str(told.fileno())}
+                came = but_for_closes(
+                    run(with_ledger(path, journal, RUN_SAMPLE), CLOSE_LINES, env=around, pass_fds=[told.fileno()])
+                )
+                was_refused = os.fstat(told.fileno()).st_size > 0
+            ends = [copy.deepcopy(kept) for end, kept in all_ends if end == came]
+            right = answers(session(TWO_CLOSES)[1])
+            self.check(f"allocation {number} is refused", came, came if ends and was_refused else right)
+            again = run(with_ledger(path, journal, RUN_SAMPLE), CLOSE_LINES)
+            rights = [answers(b"".join(map(kept.reply, CLOSE_COMMANDS))) for kept in ends]
+            self.check(f"the next session, when allocation {number} was", again, again if again in rights else right)
+            number += PASSED

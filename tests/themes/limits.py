@@ -5,9 +5,9 @@ from support.fares import (
     MOST_BANDS, MOST_CHANGES, MOST_EDITIONS, MOST_FIXES, MOST_HOLIDAYS, MOST_PLACES, MOST_TAPS, SPANS, ZONES, counted,
     zone_of,
 )
-from support.judging import test
 from support.repository import RUN_SAMPLE
 from support.running import A_DAY, MONDAY, RUN, SEVEN, answers, fault, play, run, written
+from support.theme import Theme
 
 
 def full_of(prices, order):
@@ -24,7 +24,8 @@ def full_of(prices, order):
         (f"TAP 1 {MOST_TAPS} 7 604799 50 BUS", "NO 1 OutOfTime"),
         (f"SHOW 7 {MONDAY}", f"SHOW 7 {MONDAY} {MOST_TAPS} {last}{journeys}"),
         (f"DUE 7 {MONDAY}", f"DUE 7 {MONDAY} {MONDAY} {MOST_TAPS + 1} {last} 4={last}"),
-        # Without the first boarding the second pays, and each 3,601st from there: as many. It makes no room for another.
+        # Without the first boarding the second pays, and each 3,601st from there: as many. It makes no room for
+        # another.
         ("FIX 3 2 7 VOID 1 0", f"OK {MONDAY} {last} {last}"),
         (f"TAP 1 {MOST_TAPS} 7 {SEVEN + MOST_TAPS} 50 BUS", "NO 21 AccountFull"),
         (f"FIX 3 3 7 FILL {SEVEN - A_DAY + 1_200} 12 OUT", f"OK {MONDAY - 1} 280 280"),
@@ -32,23 +33,13 @@ def full_of(prices, order):
     ]
     # Corrections take no room. That of Sunday is of the week before.
     ahead = [(f"FIX 3 1 7 FILL {SEVEN - A_DAY} 10 IN", f"OK {MONDAY - 1} 860 860")]
-    return ahead + [(f"TAP 1 {i} 7 {SEVEN + i} 50 BUS", f"OK {MONDAY} {price} {price}") for i, price in zip(order, prices)] + then
+    return ahead + [
+        (f"TAP 1 {i} 7 {SEVEN + i} 50 BUS", f"OK {MONDAY} {price} {price}") for i, price in zip(order, prices)
+    ] + then
 
 
-@test
-def full_account(_):
-    """An account of as many taps as it may have, whichever comes first, and what it answers then."""
-    # Of boardings a second apart each 3,601st pays.
-    prices = [175 * (i // 3_601 + 1) for i in range(MOST_TAPS)]
-    for name, given, each, order in (
-        ("the first one first", RUN, prices, range(MOST_TAPS)),
-        ("the last one first", RUN, prices, reversed(range(MOST_TAPS))),
-        ("up to the day's cap", RUN_SAMPLE, [min(price, 525) for price in prices], range(MOST_TAPS)),
-    ):
-        yield f"16,384 taps of one account, {name}", *play(given, full_of(each, order))
-
-
-# What the correction of each sequence number does, the day and the prices in its reply, and what is due with a boarding at 07:00.
+# What the correction of each sequence number does, the day and the prices in its reply, and what is due with a boarding
+# at 07:00.
 FULL_OF = {
     "Credits": (lambda seq: f"CREDIT {MONDAY} 1", f"{MONDAY} 0 0", "0"),
     "Fills of boardings": (lambda seq: f"FILL {SEVEN + seq} 50 BUS", f"{MONDAY} 175 175", "175 4=175"),
@@ -57,23 +48,36 @@ FULL_OF = {
 }
 
 
-@test
-def full_corrections(_):
-    """An account of as many corrections as it may have, of each form, and what it answers then."""
-    for name, (words, told, due) in FULL_OF.items():
-        pairs = [(f"FIX 3 {seq} 7 {words(seq)}", f"OK {told}") for seq in range(MOST_FIXES)]
-        for more in ("VOID 1 1", f"FILL {SEVEN} 12 OUT", f"CREDIT {MONDAY} 1", "DROP 3 0", f"DROP 3 {MOST_FIXES}"):
-            pairs.append((f"FIX 3 {MOST_FIXES} 7 {more}", "NO 23 FixesFull"))
-        for seq in (0, MOST_FIXES - 1):
-            pairs.append((f"FIX 3 {seq} 7 {words(seq)}", f"AGAIN {told}"))
-            pairs.append((f"FIX 3 {seq} 7 CREDIT {MONDAY} 2", "NO 22 FixConflict"))
-        for seq in (0, MOST_FIXES):
-            pairs.append((f"FIX 3 {seq} 7 FILL {SEVEN} 99 OUT", "NO 15 UnknownPlace"))
-            pairs.append((f"FIX 3 {seq} 7 FILL 604799 99 OUT", "NO 1 OutOfTime"))
-        # Taps are counted apart, and so is another account.
-        pairs += [(f"TAP 2 1 7 {SEVEN} 50 BUS", f"OK {MONDAY} 175 175"), (f"FIX 3 0 8 {words(0)}", f"OK {told}")]
-        pairs.append((f"DUE 7 {MONDAY}", f"DUE 7 {MONDAY} {MONDAY} {MOST_FIXES + 1} {due}"))
-        yield f"1,024 {name}", *play(RUN_SAMPLE, pairs)
+class Accounts(Theme):
+    """Accounts at their limits."""
+
+    def test_full_account(self):
+        """An account of as many taps as it may have, whichever comes first, and what it answers then."""
+        # Of boardings a second apart each 3,601st pays.
+        prices = [175 * (i // 3_601 + 1) for i in range(MOST_TAPS)]
+        for name, given, each, order in (
+            ("the first one first", RUN, prices, range(MOST_TAPS)),
+            ("the last one first", RUN, prices, reversed(range(MOST_TAPS))),
+            ("up to the day's cap", RUN_SAMPLE, [min(price, 525) for price in prices], range(MOST_TAPS)),
+        ):
+            self.check(f"16,384 taps of one account, {name}", *play(given, full_of(each, order)))
+
+    def test_full_corrections(self):
+        """An account of as many corrections as it may have, of each form, and what it answers then."""
+        for name, (words, told, due) in FULL_OF.items():
+            pairs = [(f"FIX 3 {seq} 7 {words(seq)}", f"OK {told}") for seq in range(MOST_FIXES)]
+            for more in ("VOID 1 1", f"FILL {SEVEN} 12 OUT", f"CREDIT {MONDAY} 1", "DROP 3 0", f"DROP 3 {MOST_FIXES}"):
+                pairs.append((f"FIX 3 {MOST_FIXES} 7 {more}", "NO 23 FixesFull"))
+            for seq in (0, MOST_FIXES - 1):
+                pairs.append((f"FIX 3 {seq} 7 {words(seq)}", f"AGAIN {told}"))
+                pairs.append((f"FIX 3 {seq} 7 CREDIT {MONDAY} 2", "NO 22 FixConflict"))
+            for seq in (0, MOST_FIXES):
+                pairs.append((f"FIX 3 {seq} 7 FILL {SEVEN} 99 OUT", "NO 15 UnknownPlace"))
+                pairs.append((f"FIX 3 {seq} 7 FILL 604799 99 OUT", "NO 1 OutOfTime"))
+            # Taps are counted apart, and so is another account.
+            pairs += [(f"TAP 2 1 7 {SEVEN} 50 BUS", f"OK {MONDAY} 175 175"), (f"FIX 3 0 8 {words(0)}", f"OK {told}")]
+            pairs.append((f"DUE 7 {MONDAY}", f"DUE 7 {MONDAY} {MONDAY} {MOST_FIXES + 1} {due}"))
+            self.check(f"1,024 {name}", *play(RUN_SAMPLE, pairs))
 
 
 def is_peak(second):
@@ -81,7 +85,8 @@ def is_peak(second):
 
 
 def busy_minutes(second, boarding):
-    """Six taps of the Monday from this second on, each with what it adds to the price; and the four journeys that they make."""
+    """Six taps of the Monday from this second on, each with what it adds to the price; and the four journeys that they
+    make."""
     utc = A_DAY * MONDAY + second
     leg = 340 if is_peak(second + 30) else 280
     same = 200 if is_peak(second + 130) else 190
@@ -102,20 +107,22 @@ def busy_minutes(second, boarding):
     return taps, journeys
 
 
-@test
-def busy_day(_):
-    """A day of 1,000 journeys, shown."""
-    pairs, journeys, price = [], [], 0
-    for i in range(250):
-        # Of boardings 345 seconds apart each eleventh pays. The day begins at 04:30.
-        taps, made = busy_minutes(16_200 + 345 * i, 0 if i % 11 else 175)
-        journeys += made
-        for utc, place, kind, more in taps:
-            price += more
-            pairs.append((f"TAP 1 {len(pairs)} 7 {utc} {place} {kind}", f"OK {MONDAY} {price} {price}"))
-    listed = "".join(f"\nJNY {journey}" for journey in journeys)
-    pairs.append((f"SHOW 7 {MONDAY}", f"SHOW 7 {MONDAY} {len(journeys)} {price}{listed}"))
-    yield "1,000 journeys of one day", *play(RUN, pairs)
+class Days(Theme):
+    """A day of every fare."""
+
+    def test_busy_day(self):
+        """A day of 1,000 journeys, shown."""
+        pairs, journeys, price = [], [], 0
+        for i in range(250):
+            # Of boardings 345 seconds apart each eleventh pays. The day begins at 04:30.
+            taps, made = busy_minutes(16_200 + 345 * i, 0 if i % 11 else 175)
+            journeys += made
+            for utc, place, kind, more in taps:
+                price += more
+                pairs.append((f"TAP 1 {len(pairs)} 7 {utc} {place} {kind}", f"OK {MONDAY} {price} {price}"))
+        listed = "".join(f"\nJNY {journey}" for journey in journeys)
+        pairs.append((f"SHOW 7 {MONDAY}", f"SHOW 7 {MONDAY} {len(journeys)} {price}{listed}"))
+        self.check("1,000 journeys of one day", *play(RUN, pairs))
 
 
 LAST_ROUTE, LONE = 65_535, 99_907
@@ -169,7 +176,8 @@ def each_span():
 
 
 def first_and_last(last):
-    """A leg between the first and the last station, boardings of the last route, legs on the first and the last holiday."""
+    """A leg between the first and the last station, boardings of the last route, legs on the first and the last
+    holiday."""
     yield travel(TUESDAY, 1, last, NOON, 60, single(1, zone_of(last), False))
     paid = ((0, 100_000), (7_200, 100_000), (7_201, 200_000))
     yield TUESDAY, [(NOON + after, LAST_ROUTE, "BUS", price) for after, price in paid]
@@ -178,7 +186,8 @@ def first_and_last(last):
 
 
 def each_change():
-    """From 9 to an interchange and on to 18, in its time and a second later; and at two stations that are not listed."""
+    """From 9 to an interchange and on to 18, in its time and a second later; and at two stations that are not
+    listed."""
     for change, is_listed in ((1, True), (MOST_CHANGES, True), (MOST_CHANGES + 1, False)):
         out, entry = 2 * change - 1, 2 * change
         there, back = single(zone_of(out), 9, False), single(zone_of(entry), 9, False)
@@ -197,34 +206,36 @@ def by_accounts(travels):
             yield f"TAP 1 {seq} {account} {A_DAY * day + second} {place} {kind}", f"OK {day} {price} {price}"
 
 
-@test
-def fare_file_at_limits(folder):
-    """As many places, bands, interchanges, holidays and editions as a fare file may have, and one more."""
-    last = MOST_PLACES - 1
-    unknown = ((last + 1, "IN"), (LAST_ROUTE - 1, "BUS"), (last, "BUS"), (LAST_ROUTE, "OUT"))
-    pairs = [(f"TAP 1 1 7 {SEVEN} {place} {kind}", "NO 15 UnknownPlace") for place, kind in unknown]
-    pairs += by_accounts([*each_span(), *first_and_last(last), *each_change()])
-    whole = written(folder, "whole", at_limits(last, 1, MOST_CHANGES, MOST_HOLIDAYS))
-    yield "the fare file at its limits", *play(["run", whole, "UTC0"], pairs)
-    too_many = fault("16 TooMany")
-    for name, counts, wanted in (
-        (
-            "all at its limits",
-            (last, 1, MOST_CHANGES, MOST_HOLIDAYS, MOST_BANDS, MOST_EDITIONS),
-            counted(MOST_PLACES, MOST_BANDS, MOST_CHANGES, MOST_HOLIDAYS, MOST_EDITIONS),
-        ),
-        ("nothing", (0, 0, 0, 0), counted(0, 0, 0, 0)),
-        ("stations alone", (MOST_PLACES, 0, 0, 0), counted(MOST_PLACES, 0, 0, 0)),
-        ("routes alone", (0, MOST_PLACES, 0, 0), counted(MOST_PLACES, 0, 0, 0)),
-        ("bands alone", (0, 0, 0, 0, MOST_BANDS), counted(0, MOST_BANDS, 0, 0)),
-        ("a station too many", (MOST_PLACES + 1, 0, 0, 0), too_many),
-        ("a route too many", (0, MOST_PLACES + 1, 0, 0), too_many),
-        ("a place too many", (last, 2, MOST_CHANGES, MOST_HOLIDAYS), too_many),
-        ("an interchange too many", (last, 1, MOST_CHANGES + 1, MOST_HOLIDAYS), too_many),
-        ("a holiday too many", (last, 1, MOST_CHANGES, MOST_HOLIDAYS + 1), too_many),
-        ("a band too many", (last, 1, MOST_CHANGES, MOST_HOLIDAYS, MOST_BANDS + 1), too_many),
-        ("an edition too many", (last, 1, MOST_CHANGES, MOST_HOLIDAYS, MOST_BANDS, MOST_EDITIONS + 1), too_many),
-    ):
-        path = written(folder, "counted", at_limits(*counts))
-        yield f"{name}, checked", run(["check", path]), wanted
-        yield f"{name}, run", run(["run", path, "UTC0"]), answers(b"") if wanted.status == 0 else wanted
+class FareFiles(Theme):
+    """A fare file at its limits."""
+
+    def test_fare_file_at_limits(self):
+        """As many places, bands, interchanges, holidays and editions as a fare file may have, and one more."""
+        last = MOST_PLACES - 1
+        unknown = ((last + 1, "IN"), (LAST_ROUTE - 1, "BUS"), (last, "BUS"), (LAST_ROUTE, "OUT"))
+        pairs = [(f"TAP 1 1 7 {SEVEN} {place} {kind}", "NO 15 UnknownPlace") for place, kind in unknown]
+        pairs += by_accounts([*each_span(), *first_and_last(last), *each_change()])
+        whole = written(self.folder, "whole", at_limits(last, 1, MOST_CHANGES, MOST_HOLIDAYS))
+        self.check("the fare file at its limits", *play(["run", whole, "UTC0"], pairs))
+        too_many = fault("16 TooMany")
+        for name, counts, wanted in (
+            (
+                "all at its limits",
+                (last, 1, MOST_CHANGES, MOST_HOLIDAYS, MOST_BANDS, MOST_EDITIONS),
+                counted(MOST_PLACES, MOST_BANDS, MOST_CHANGES, MOST_HOLIDAYS, MOST_EDITIONS),
+            ),
+            ("nothing", (0, 0, 0, 0), counted(0, 0, 0, 0)),
+            ("stations alone", (MOST_PLACES, 0, 0, 0), counted(MOST_PLACES, 0, 0, 0)),
+            ("routes alone", (0, MOST_PLACES, 0, 0), counted(MOST_PLACES, 0, 0, 0)),
+            ("bands alone", (0, 0, 0, 0, MOST_BANDS), counted(0, MOST_BANDS, 0, 0)),
+            ("a station too many", (MOST_PLACES + 1, 0, 0, 0), too_many),
+            ("a route too many", (0, MOST_PLACES + 1, 0, 0), too_many),
+            ("a place too many", (last, 2, MOST_CHANGES, MOST_HOLIDAYS), too_many),
+            ("an interchange too many", (last, 1, MOST_CHANGES + 1, MOST_HOLIDAYS), too_many),
+            ("a holiday too many", (last, 1, MOST_CHANGES, MOST_HOLIDAYS + 1), too_many),
+            ("a band too many", (last, 1, MOST_CHANGES, MOST_HOLIDAYS, MOST_BANDS + 1), too_many),
+            ("an edition too many", (last, 1, MOST_CHANGES, MOST_HOLIDAYS, MOST_BANDS, MOST_EDITIONS + 1), too_many),
+        ):
+            path = written(self.folder, "counted", at_limits(*counts))
+            self.check(f"{name}, checked", run(["check", path]), wanted)
+            self.check(f"{name}, run", run(["run", path, "UTC0"]), answers(b"") if wanted.status == 0 else wanted)

@@ -1,11 +1,16 @@
-"""What `check --lint` says of a fare file and where its fault lies, and whether a file prices days as an old one does."""
+"""What `check --lint` says of a fare file and where its fault lies, and whether a file prices days as an old one
+does."""
 
-from support.judging import test
 from support.repository import COUNTED, LONDON, SAMPLE, TWO
 from support.running import FARES, MISSING, End, answers, edited, fault, read, run, written
+from support.theme import Theme
 
 LAST_STATION = "{ place = 14, low = 3, high = 3, operator = 3 },"
-LAST_BANDS = "  { from = 0, to = 0, day = 540, week = 2500 },\n  { from = 1, to = 2, day = 900, week = 4500 },\n  { from = 1, to = 3, day = 1060, week = 5300 },\n"
+LAST_BANDS = """\
+  { from = 0, to = 0, day = 540, week = 2500 },
+  { from = 1, to = 2, day = 900, week = 4500 },
+  { from = 1, to = 3, day = 1060, week = 5300 },
+"""
 # What is put in the place of what in examples/sample.toml, and what is then warned of.
 WARNINGS = (
     ("band = [", "bands = [", ("key bands is not read", "no bands")),
@@ -13,7 +18,11 @@ WARNINGS = (
     ("day = 525, week = 2470 }", "day = 525, week = 247 }", ("at band 1: week 247 is below day 525",)),
     ("day = 525, week = 2470 }", "day = 525, week = 525 }", ()),
     ("day = 890, week = 4470 }", "day = 0, week = 4470 }", ("at band 2: a cap of 0",)),
-    ("day = 890, week = 4470 }", "day = 890, week = 0, x = 1 }", ("at band 2: key x is not read", "at band 2: week 0 is below day 890", "at band 2: a cap of 0")),
+    (
+        "day = 890, week = 4470 }",
+        "day = 890, week = 0, x = 1 }",
+        ("at band 2: key x is not read", "at band 2: week 0 is below day 890", "at band 2: a cap of 0"),
+    ),
     ("[rules]", "[rules]\nmaxmum = 1", ("at key rules: key maxmum is not read",)),
     ("operator = 4 }", 'operator = 4, name = "50" }', ("at route 1: key name is not read",)),
     ("peak = 280, off = 270", "peak = 270, off = 280", ("at single 1: peak 270 is below off 280",)),
@@ -31,7 +40,11 @@ WARNINGS_OF_TWO = (
     (f"band = [\n{LAST_BANDS}]\n", "", ("at the edition of day 19731: no bands", NONE_AFTER)),
     ("day = 19731", "day = 19731\nrulez = 1", ("at the edition of day 19731: key rulez is not read", NONE_AFTER)),
     ("week = 4500", "week = 450", ("at the edition of day 19731, band 2: week 450 is below day 900", NONE_AFTER)),
-    ("peak = 380, off = 310", "peak = 300, off = 310", ("at the edition of day 19731, single 3: peak 300 is below off 310", NONE_AFTER)),
+    (
+        "peak = 380, off = 310",
+        "peak = 300, off = 310",
+        ("at the edition of day 19731, single 3: peak 300 is below off 310", NONE_AFTER),
+    ),
 )
 # What is put in the place of what in examples/two.toml, how the file is then refused, and where its fault lies.
 EDITION_RULES = "rules = { bus = 180, maximum = 900, hopper = 3600, same_free = 120, same_limit = 1800 }"
@@ -47,7 +60,11 @@ FAULTS = (
     ("b = 12", "b = 99", "15 UnknownPlace at interchange 1"),
     ("place = 50", "place = 14", "14 Duplicate at route 1"),
     ("day = 19731", "day = 4", "13 OutOfRange at edition 1, key day"),
-    (EDITION_RULES, EDITION_RULES.replace("3600", "3601"), "17 HopperDiffers at the edition of day 19731, key rules.hopper"),
+    (
+        EDITION_RULES,
+        EDITION_RULES.replace("3600", "3601"),
+        "17 HopperDiffers at the edition of day 19731, key rules.hopper",
+    ),
     ("week = 5300", "week = -1", "13 OutOfRange at the edition of day 19731, band 3, key week"),
     ("[[edition]]", "[[edition]", "10 NotToml at line 39"),
 )
@@ -78,14 +95,21 @@ SAME = (
     ("holidays = [19723]", "bands = 1\nholidays = [19723]"),
     (LAST_STATION, f"{LAST_STATION} {{ place = 15, low = 1, high = 1, operator = 9 }},"),
     ("{ place = 50, operator = 4 },", "{ place = 51, operator = 4 }, { place = 50, operator = 4 },"),
-    ("  { from = 1, to = 1, peak = 280, off = 270 },\n  { from = 1, to = 2, peak = 340, off = 280 },", "  { from = 1, to = 2, peak = 340, off = 280 },\n  { from = 1, to = 1, peak = 280, off = 270 },"),
+    (
+        "  { from = 1, to = 1, peak = 280, off = 270 },\n  { from = 1, to = 2, peak = 340, off = 280 },",
+        "  { from = 1, to = 2, peak = 340, off = 280 },\n  { from = 1, to = 1, peak = 280, off = 270 },",
+    ),
     ("a = 10, b = 12", "a = 12, b = 10"),
 )
 # A station is new, and so is a zone, with all that it needs.
 FOURTH_ZONE = (
     ("zones = 3", "zones = 4"), ("[90, 100, 110]", "[90, 100, 110, 120]"),
-    ("off = 180 },", "off = 180 },\n" + "".join(f"  {{ from = {zone}, to = 4, peak = 400, off = 400 }},\n" for zone in range(1, 5))),
-    (LAST_STATION, f"{LAST_STATION} {{ place = 15, low = 4, high = 4, operator = 1 }},"), ("seconds = 1200 },", "seconds = 1200 }, { a = 15, b = 10, seconds = 60 },"),
+    (
+        "off = 180 },",
+        "off = 180 },\n" + "".join(f"  {{ from = {zone}, to = 4, peak = 400, off = 400 }},\n" for zone in range(1, 5)),
+    ),
+    (LAST_STATION, f"{LAST_STATION} {{ place = 15, low = 4, high = 4, operator = 1 }},"),
+    ("seconds = 1200 },", "seconds = 1200 }, { a = 15, b = 10, seconds = 60 },"),
 )
 
 
@@ -103,95 +127,139 @@ def counted(path):
     return run(["check", path]).output
 
 
-@test
-def warnings(folder):
-    """What is warned of, by `check --lint` alone or beside an old file, and at the start of sessions with files."""
-    for name, rows in (("sample.toml", WARNINGS), ("two.toml", WARNINGS_OF_TWO)):
-        for number, (old, new, said) in enumerate(rows):
-            path = written(folder, f"{number}-{name}", edited(old, new, name))
-            yield f"{name} with {new!r}", run(["check", "--lint", path]), warned(counted(path), said)
-            yield f"{name} with {new!r}, without --lint", run(["check", path]), answers(counted(path))
-    yield "the sample", run(["check", SAMPLE, "--lint"]), answers(COUNTED)
-    yield "beside an old file", run(["check", TWO, "--lint", "--against", TWO]), warned(b"OK\n", (NONE_AFTER,))
-    came = run(["check", TWO, "--against", SAMPLE, "--lint"])
-    yield "beside an old file of other fares", came, other(19731, "rules.bus")._replace(errors=other(19731, "rules.bus").errors + warned(b"", (NONE_AFTER,)).errors)
-    line, reply = b"TAP 1 1 7 1704697200 50 BUS\n", b"OK 19730 175 175\n"
-    for given in (["--journal", f"{folder}/journal"], ["--ledger", f"{folder}/ledger"], ["--journal", f"{folder}/kept", "--ledger", f"{folder}/posted"]):
-        yield f"a session with {' '.join(given)}", run(["run", TWO, LONDON, *given], line), warned(reply, (NONE_AFTER,))._replace(status=0)
-    yield "a session without files", run(["run", TWO, LONDON], line), answers(reply)
-    yield "a statement by a journal", run(["statement", TWO, LONDON, "8", "19730", "--journal", f"{folder}/journal"]), answers(b"day,kind,from,to,start,fare,band\n")
+class Lints(Theme):
+    def test_warnings(self):
+        """What is warned of, by `check --lint` alone or beside an old file, and at the start of sessions with files."""
+        for name, rows in (("sample.toml", WARNINGS), ("two.toml", WARNINGS_OF_TWO)):
+            for number, (old, new, said) in enumerate(rows):
+                path = written(self.folder, f"{number}-{name}", edited(old, new, name))
+                self.check(f"{name} with {new!r}", run(["check", "--lint", path]), warned(counted(path), said))
+                self.check(f"{name} with {new!r}, without --lint", run(["check", path]), answers(counted(path)))
+        self.check("the sample", run(["check", SAMPLE, "--lint"]), answers(COUNTED))
+        self.check(
+            "beside an old file", run(["check", TWO, "--lint", "--against", TWO]), warned(b"OK\n", (NONE_AFTER,))
+        )
+        came = run(["check", TWO, "--against", SAMPLE, "--lint"])
+        self.check(
+            "beside an old file of other fares",
+            came,
+            other(19731, "rules.bus")._replace(
+                errors=other(19731, "rules.bus").errors + warned(b"", (NONE_AFTER,)).errors
+            ),
+        )
+        line, reply = b"TAP 1 1 7 1704697200 50 BUS\n", b"OK 19730 175 175\n"
+        for given in (
+            ["--journal", f"{self.folder}/journal"],
+            ["--ledger", f"{self.folder}/ledger"],
+            ["--journal", f"{self.folder}/kept", "--ledger", f"{self.folder}/posted"],
+        ):
+            self.check(
+                f"a session with {' '.join(given)}",
+                run(["run", TWO, LONDON, *given], line),
+                warned(reply, (NONE_AFTER,))._replace(status=0),
+            )
+        self.check("a session without files", run(["run", TWO, LONDON], line), answers(reply))
+        self.check(
+            "a statement by a journal",
+            run(["statement", TWO, LONDON, "8", "19730", "--journal", f"{self.folder}/journal"]),
+            answers(b"day,kind,from,to,start,fare,band\n"),
+        )
 
+    def test_places_of_faults(self):
+        """Where a refused file is at fault, by `check --lint` alone."""
+        for number, (old, new, line) in enumerate(FAULTS):
+            path = written(self.folder, f"{number}.toml", edited(old, new, "two.toml"))
+            self.check(f"two.toml with {new!r}", run(["check", path, "--lint"]), fault(line))
+            self.check(f"two.toml with {new!r}, without --lint", run(["check", path]), fault(line.split(" at ")[0]))
+        text = read("two.toml").decode()
+        twice = written(self.folder, "twice.toml", (text + text[text.index("[[edition]]"):]).encode())
+        self.check(
+            "a second edition of the day", run(["check", twice, "--lint"]), fault("14 Duplicate at edition 2, key day")
+        )
+        for name, text, line in (
+            ("the first line", "zones\n", 1),
+            ("the third line", "a = 1\nb = 2\nc\nd = 4\n", 3),
+            ("the last line", "a = 1\nb", 2),
+        ):
+            path = written(self.folder, "none.toml", text.encode())
+            self.check(f"no TOML at {name}", run(["check", path, "--lint"]), fault(f"10 NotToml at line {line}"))
 
-@test
-def places_of_faults(folder):
-    """Where a refused file is at fault, by `check --lint` alone."""
-    for number, (old, new, line) in enumerate(FAULTS):
-        path = written(folder, f"{number}.toml", edited(old, new, "two.toml"))
-        yield f"two.toml with {new!r}", run(["check", path, "--lint"]), fault(line)
-        yield f"two.toml with {new!r}, without --lint", run(["check", path]), fault(line.split(" at ")[0])
-    text = read("two.toml").decode()
-    twice = written(folder, "twice.toml", (text + text[text.index("[[edition]]"):]).encode())
-    yield "a second edition of the day", run(["check", twice, "--lint"]), fault("14 Duplicate at edition 2, key day")
-    for name, text, line in (("the first line", "zones\n", 1), ("the third line", "a = 1\nb = 2\nc\nd = 4\n", 3), ("the last line", "a = 1\nb", 2)):
-        path = written(folder, "none.toml", text.encode())
-        yield f"no TOML at {name}", run(["check", path, "--lint"]), fault(f"10 NotToml at line {line}")
+    def test_against_an_old_file(self):
+        """Files that price days as an old one does, and the first day and key of those that do not."""
+        for number, (old, new, day, key) in enumerate(DIFFERENCES):
+            path = written(self.folder, f"{number}.toml", edited(old, new, "sample.toml"))
+            self.check(f"the sample with {new!r}", run(["check", path, "--against", SAMPLE]), other(day, key))
+            self.check(
+                f"the sample with {new!r}, after that day",
+                run(["check", path, "--against", SAMPLE, "--after", f"{day}"]),
+                other(day, key),
+            )
+            before = other(day, key) if day == 4 else answers(b"OK\n")
+            self.check(
+                f"the sample with {new!r}, after the day before",
+                run(["check", path, "--against", SAMPLE, "--after", f"{max(day - 1, 4)}"]),
+                before,
+            )
+        # Of several keys that differ, those that all editions share come first.
+        text = read("sample.toml").decode()
+        for name, keys, key in (
+            ("the bus fare and the Hopper time", ("bus = 175", "hopper = 3600"), "rules.hopper"),
+            ("the bus fare and an interchange", ("bus = 175", "seconds = 1200"), "interchange 10 12"),
+        ):
+            changed = text
+            for it in keys:
+                changed = changed.replace(it, f"{it[:-1]}{int(it[-1]) + 1}")
+            self.check(
+                name,
+                run(["check", written(self.folder, "both.toml", changed.encode()), "--against", SAMPLE]),
+                other(4, key),
+            )
+        for number, (old, new) in enumerate(SAME):
+            path = written(self.folder, f"same-{number}.toml", edited(old, new, "sample.toml"))
+            self.check(f"the sample with {new!r}", run(["check", path, "--against", SAMPLE]), answers(b"OK\n"))
+        text = read("sample.toml").decode()
+        for old, new in FOURTH_ZONE:
+            text = text.replace(old, new)
+        fourth = written(self.folder, "fourth.toml", text.encode())
+        self.check("a new zone", run(["check", fourth, "--against", SAMPLE]), answers(b"OK\n"))
+        self.check("a zone fewer", run(["check", SAMPLE, "--against", fourth]), other(4, "zones"))
 
+    def test_new_fares(self):
+        """A file with an edition beside one without, and editions that say nothing new."""
+        self.check("new fares", run(["check", TWO, "--against", SAMPLE]), other(19731, "rules.bus"))
+        self.check(
+            "new fares, up to the day before",
+            run(["check", TWO, "--against", SAMPLE, "--after", "19730"]),
+            answers(b"OK\n"),
+        )
+        self.check(
+            "new fares, up to their first day",
+            run(["check", TWO, "--after=19731", "--against", SAMPLE]),
+            other(19731, "rules.bus"),
+        )
+        self.check("the new fares are gone", run(["check", SAMPLE, "--against", TWO]), other(19731, "rules.bus"))
+        self.check("the same file", run(["check", TWO, "--against", TWO]), answers(b"OK\n"))
+        later = written(self.folder, "later.toml", edited("day = 19731", "day = 19732", "two.toml"))
+        self.check("an edition a day later", run(["check", later, "--against", TWO]), other(19731, "rules.bus"))
+        text = read("two.toml").decode()
+        again = text + text[text.index("[[edition]]"):].replace("19731", "30000").replace("week = 2500", "week = 2501")
+        third = written(self.folder, "third.toml", again.encode())
+        self.check("a further edition", run(["check", third, "--against", TWO]), other(30000, "band"))
+        same = written(self.folder, "same.toml", again.replace("week = 2501", "week = 2500").encode())
+        self.check("a further edition that says the same", run(["check", same, "--against", TWO]), answers(b"OK\n"))
 
-@test
-def against_an_old_file(folder):
-    """Files that price days as an old one does, and the first day and key of those that do not."""
-    for number, (old, new, day, key) in enumerate(DIFFERENCES):
-        path = written(folder, f"{number}.toml", edited(old, new, "sample.toml"))
-        yield f"the sample with {new!r}", run(["check", path, "--against", SAMPLE]), other(day, key)
-        yield f"the sample with {new!r}, after that day", run(["check", path, "--against", SAMPLE, "--after", f"{day}"]), other(day, key)
-        before = other(day, key) if day == 4 else answers(b"OK\n")
-        yield f"the sample with {new!r}, after the day before", run(["check", path, "--against", SAMPLE, "--after", f"{max(day - 1, 4)}"]), before
-    # Of several keys that differ, those that all editions share come first.
-    text = read("sample.toml").decode()
-    for name, keys, key in (
-        ("the bus fare and the Hopper time", ("bus = 175", "hopper = 3600"), "rules.hopper"),
-        ("the bus fare and an interchange", ("bus = 175", "seconds = 1200"), "interchange 10 12"),
-    ):
-        changed = text
-        for it in keys:
-            changed = changed.replace(it, f"{it[:-1]}{int(it[-1]) + 1}")
-        yield name, run(["check", written(folder, "both.toml", changed.encode()), "--against", SAMPLE]), other(4, key)
-    for number, (old, new) in enumerate(SAME):
-        path = written(folder, f"same-{number}.toml", edited(old, new, "sample.toml"))
-        yield f"the sample with {new!r}", run(["check", path, "--against", SAMPLE]), answers(b"OK\n")
-    text = read("sample.toml").decode()
-    for old, new in FOURTH_ZONE:
-        text = text.replace(old, new)
-    fourth = written(folder, "fourth.toml", text.encode())
-    yield "a new zone", run(["check", fourth, "--against", SAMPLE]), answers(b"OK\n")
-    yield "a zone fewer", run(["check", SAMPLE, "--against", fourth]), other(4, "zones")
-
-
-@test
-def new_fares(folder):
-    """A file with an edition beside one without, and editions that say nothing new."""
-    yield "new fares", run(["check", TWO, "--against", SAMPLE]), other(19731, "rules.bus")
-    yield "new fares, up to the day before", run(["check", TWO, "--against", SAMPLE, "--after", "19730"]), answers(b"OK\n")
-    yield "new fares, up to their first day", run(["check", TWO, "--after=19731", "--against", SAMPLE]), other(19731, "rules.bus")
-    yield "the new fares are gone", run(["check", SAMPLE, "--against", TWO]), other(19731, "rules.bus")
-    yield "the same file", run(["check", TWO, "--against", TWO]), answers(b"OK\n")
-    later = written(folder, "later.toml", edited("day = 19731", "day = 19732", "two.toml"))
-    yield "an edition a day later", run(["check", later, "--against", TWO]), other(19731, "rules.bus")
-    text = read("two.toml").decode()
-    again = text + text[text.index("[[edition]]"):].replace("19731", "30000").replace("week = 2500", "week = 2501")
-    third = written(folder, "third.toml", again.encode())
-    yield "a further edition", run(["check", third, "--against", TWO]), other(30000, "band")
-    same = written(folder, "same.toml", again.replace("week = 2501", "week = 2500").encode())
-    yield "a further edition that says the same", run(["check", same, "--against", TWO]), answers(b"OK\n")
-
-
-@test
-def old_files(folder):
-    """An old file that cannot be read or is refused, after FARES."""
-    refused = written(folder, "refused.toml", edited("bus = 175\n", "", "sample.toml"))
-    yield "it is missing", run(["check", SAMPLE, "--against", MISSING]), fault("cannot read old fares")
-    yield "it is refused", run(["check", SAMPLE, "--against", refused]), fault("old fares: 11 MissingKey")
-    yield "both are", run(["check", refused, "--against", refused]), fault("11 MissingKey")
-    yield "both are, with --lint", run(["check", refused, "--lint", "--against", refused]), fault("11 MissingKey at key rules.bus")
-    yield "FARES is missing", run(["check", MISSING, "--against", MISSING]), fault("cannot read fares")
-    yield "no bands are no difference to themselves", run(["check", FARES, "--against", FARES]), answers(b"OK\n")
+    def test_old_files(self):
+        """An old file that cannot be read or is refused, after FARES."""
+        refused = written(self.folder, "refused.toml", edited("bus = 175\n", "", "sample.toml"))
+        self.check("it is missing", run(["check", SAMPLE, "--against", MISSING]), fault("cannot read old fares"))
+        self.check("it is refused", run(["check", SAMPLE, "--against", refused]), fault("old fares: 11 MissingKey"))
+        self.check("both are", run(["check", refused, "--against", refused]), fault("11 MissingKey"))
+        self.check(
+            "both are, with --lint",
+            run(["check", refused, "--lint", "--against", refused]),
+            fault("11 MissingKey at key rules.bus"),
+        )
+        self.check("FARES is missing", run(["check", MISSING, "--against", MISSING]), fault("cannot read fares"))
+        self.check(
+            "no bands are no difference to themselves", run(["check", FARES, "--against", FARES]), answers(b"OK\n")
+        )

@@ -1,12 +1,13 @@
-"""What an account owes of a week through a day, and each operator's share of it, by hand. All of it is with examples/sample.toml."""
+"""What an account owes of a week through a day, and each operator's share of it, by hand. All of it is with
+examples/sample.toml."""
 
-from support.judging import test
 from support.repository import LONDON, RUN_SAMPLE
 from support.running import answers, in_lines, play, read, run, written
 from support.sessions import BUS_WEEK, TRAIN_AND_BUS_WEEK, ZONE_DAY, capped
+from support.theme import Theme
 
-# Quotes, with examples/sample.toml: stations 10 and 11 are operator 1's, 12 and 13 operator 2's, 14 operator 3's, and route 50 operator 4's.
-# A journey of the Sunday that ends on Monday.
+# Quotes, with examples/sample.toml: stations 10 and 11 are operator 1's, 12 and 13 operator 2's, 14 operator 3's, and
+# route 50 operator 4's. A journey of the Sunday that ends on Monday.
 OVER_THE_EDGE = (
     ("TAP 1 1 7 1704688199 10 IN", "OK 19729 860 860"),  # Monday 04:29:59
     ("DUE 7 19730", "DUE 7 19730 19730 1 0"),
@@ -16,11 +17,13 @@ OVER_THE_EDGE = (
     ("DUE 7 19730", "DUE 7 19730 19730 2 0"),
     ("DUE 7 19736", "DUE 7 19730 19736 2 0"),
 )
-# After three journeys at 340 the weights are 680 and 340, and after one more at 180 from station 14 they are 680, 340 and 180.
+# After three journeys at 340 the weights are 680 and 340, and after one more at 180 from station 14 they are 680, 340
+# and 180.
 THREE_RIDES = (
     ("DUE 7 19730", "DUE 7 19730 19730 6 890 1=593 2=297"),
     ("TAP 1 7 7 1704708000 14 IN", "OK 19730 1750 1750"),
-    ("DUE 7 19730", "DUE 7 19730 19730 7 1750 1=632 2=317 3=801"),  # 1750 · 680 / 1880 = 632.98, and 1750 · 1020 / 1880 = 949.47
+    # 1750 · 680 / 1880 = 632.98, and 1750 · 1020 / 1880 = 949.47
+    ("DUE 7 19730", "DUE 7 19730 19730 7 1750 1=632 2=317 3=801"),
     ("TAP 1 8 7 1704708600 13 OUT", "OK 19730 1050 1050"),
     ("DUE 7 19730", "DUE 7 19730 19730 8 1050 1=595 2=297 3=158"),
     # Credits are taken off what is due, and not off the weights.
@@ -104,7 +107,8 @@ CHANGING_NOTHING = (
     ("SHOW 8 19730", "SHOW 8 19730 0 0"),
     ("QUIT", "BYE"),
 )
-# Through each day: a boarding on Monday, a leg on Tuesday, a boarding on Wednesday, and Credits of Monday, Wednesday and Saturday.
+# Through each day: a boarding on Monday, a leg on Tuesday, a boarding on Wednesday, and Credits of Monday, Wednesday
+# and Saturday.
 THROUGH_DAYS = (
     ("FIX 3 3 7 CREDIT 19735 7", "OK 19735 0 0"),
     ("FIX 3 2 7 CREDIT 19732 100", "OK 19732 0 0"),
@@ -181,13 +185,17 @@ QUOTED_WEEK = (
     ("DUE 7 19734", "DUE 7 19730 19734 15 2470 4=2470"),
     ("DUE 7 19736", "DUE 7 19730 19736 15 2470 4=2470"),
 )
-# Six days of which each is capped at 1050. The weights of the four operators are 680, 340, 180 and 350 for each day but the Saturday,
-# for which they are 560, 280, 180 and 350: 2720, 1360, 720 and 1400 through Thursday, and 3960, 1980, 1080 and 2100 in all.
+# Six days of which each is capped at 1050. The weights of the four operators are 680, 340, 180 and 350 for each day but
+# the Saturday, for which they are 560, 280, 180 and 350: 2720, 1360, 720 and 1400 through Thursday, and 3960, 1980,
+# 1080 and 2100 in all.
 QUOTED_TRAIN_AND_BUS = (
-    ("DUE 7 19733", "DUE 7 19730 19733 60 4200 1=1842 2=921 3=488 4=949"),  # 4200 · 2720 / 6200 = 1842.58, 2763.87, 3251.61
-    ("DUE 7 19735", "DUE 7 19730 19735 60 5250 1=2279 2=1140 3=622 4=1209"),  # 5250 · 3960 / 9120 = 2279.61, 3419.41, 4041.12
+    # 4200 · 2720 / 6200 = 1842.58, 2763.87, 3251.61
+    ("DUE 7 19733", "DUE 7 19730 19733 60 4200 1=1842 2=921 3=488 4=949"),
+    # 5250 · 3960 / 9120 = 2279.61, 3419.41, 4041.12
+    ("DUE 7 19735", "DUE 7 19730 19735 60 5250 1=2279 2=1140 3=622 4=1209"),
     ("FIX 3 1 7 CREDIT 19730 250", "OK 19730 1050 5250"),
-    ("DUE 7 19735", "DUE 7 19730 19735 61 5000 1=2171 2=1085 3=592 4=1152"),  # 5000 · 3960 / 9120 = 2171.05, 3256.58, 3848.68
+    # 5000 · 3960 / 9120 = 2171.05, 3256.58, 3848.68
+    ("DUE 7 19735", "DUE 7 19730 19735 61 5000 1=2171 2=1085 3=592 4=1152"),
 )
 QUOTES = {
     "a journey over 04:30": OVER_THE_EDGE,
@@ -200,19 +208,14 @@ QUOTES = {
     "quotes at the ends of time": QUOTED_ENDS,
     "quotes of a capped week": [*capped(BUS_WEEK), *QUOTED_WEEK],
     "quotes of a capped week by train and bus": [*capped(TRAIN_AND_BUS_WEEK), *QUOTED_TRAIN_AND_BUS],
-    "quotes of nothing": (("DUE 7 19730", "DUE 7 19730 19730 0 0"), ("SHOW 7 19730", "SHOW 7 19730 0 0"), ("QUIT", "BYE")),
+    "quotes of nothing": (
+        ("DUE 7 19730", "DUE 7 19730 19730 0 0"), ("SHOW 7 19730", "SHOW 7 19730 0 0"), ("QUIT", "BYE")
+    ),
 }
 
-
-@test
-def what_is_due(_):
-    """What is due, and each operator's share."""
-    for name, pairs in QUOTES.items():
-        yield name, *play(RUN_SAMPLE, pairs)
-
-
-# The operators of the stations 10 and 12 and of route 50, and the shares of three rides at 340 and a boarding, 890 in all: the weights
-# of the three are 680, 340 and 175, and 890 · 680 / 1195 = 506.44, 890 · 340 / 1195 = 253.22 and 890 · 175 / 1195 = 130.33.
+# The operators of the stations 10 and 12 and of route 50, and the shares of three rides at 340 and a boarding, 890 in
+# all: the weights of the three are 680, 340 and 175, and 890 · 680 / 1195 = 506.44, 890 · 340 / 1195 = 253.22 and 890 ·
+# 175 / 1195 = 130.33.
 OTHER_OPERATORS = (
     (1, 2, 4, "1=506 2=253 4=131"),
     (16, 9, 10, "9=253 10=130 16=507"),  # 253.22, 383.56
@@ -223,14 +226,27 @@ OTHER_OPERATORS = (
 )
 
 
-@test
-def shares_by_operators(folder):
-    """The same fares with other operators."""
-    lines = [line for line, _ in capped(ZONE_DAY[:6])] + ["TAP 2 1 7 1704736800 50 BUS", "DUE 7 19730"]
-    for first, second, third, shares in OTHER_OPERATORS:
-        text = read("sample.toml").decode()
-        for place, old, new in (("place = 10, low = 1, high = 1", 1, first), ("place = 12, low = 2, high = 2", 2, second), ("place = 50", 4, third)):
-            text = text.replace(f"{place}, operator = {old}", f"{place}, operator = {new}")
-        came = run(["run", written(folder, "fares", text.encode()), LONDON], in_lines(lines))
-        came = came._replace(output=came.output.splitlines(True)[-1] if came.output else b"")
-        yield f"the operators {first}, {second} and {third}", came, answers(in_lines([f"DUE 7 19730 19730 7 890 {shares}"]))
+class Quotes(Theme):
+    def test_what_is_due(self):
+        """What is due, and each operator's share."""
+        for name, pairs in QUOTES.items():
+            self.check(name, *play(RUN_SAMPLE, pairs))
+
+    def test_shares_by_operators(self):
+        """The same fares with other operators."""
+        lines = [line for line, _ in capped(ZONE_DAY[:6])] + ["TAP 2 1 7 1704736800 50 BUS", "DUE 7 19730"]
+        for first, second, third, shares in OTHER_OPERATORS:
+            text = read("sample.toml").decode()
+            for place, old, new in (
+                ("place = 10, low = 1, high = 1", 1, first),
+                ("place = 12, low = 2, high = 2", 2, second),
+                ("place = 50", 4, third),
+            ):
+                text = text.replace(f"{place}, operator = {old}", f"{place}, operator = {new}")
+            came = run(["run", written(self.folder, "fares", text.encode()), LONDON], in_lines(lines))
+            came = came._replace(output=came.output.splitlines(True)[-1] if came.output else b"")
+            self.check(
+                f"the operators {first}, {second} and {third}",
+                came,
+                answers(in_lines([f"DUE 7 19730 19730 7 890 {shares}"])),
+            )

@@ -1,23 +1,25 @@
-"""As many accounts, taps, corrections and rows as there may be, closed, changed late and closed again, and stated; and long inputs."""
+"""As many accounts, taps, corrections and rows as there may be, closed, changed late and closed again, and stated; and
+long inputs."""
 
 import os
 import random
 
 from oracle import rules
 from support.fares import MOST_FIXES, MOST_TAPS
-from support.judging import test
 from support.repository import RUN_SAMPLE
 from support.running import A_DAY, MONDAY, RUN, SEVEN, answers, boardings, in_lines, play, run, run_file, written
 from support.serving import closed, ended, serving, side_by_side, talk_ahead
 from support.statements import rows_of_statement, stated
+from support.theme import Theme
 
 # When the Monday begins, at 04:30:00.
 BEGINS = A_DAY * MONDAY + rules.DAY_BEGINS
 
 ACCOUNTS = 20_000
 BOARDED = f"OK {MONDAY} 175 175"
-# What comes of the accounts in turn between two closes: nothing; a second boarding that pays; the first one is voided; a pound is given
-# back. Of each the line and its reply, and the version, the due and the amount of what is posted then, all of it operator 4's.
+# What comes of the accounts in turn between two closes: nothing; a second boarding that pays; the first one is voided;
+# a pound is given back. Of each the line and its reply, and the version, the due and the amount of what is posted then,
+# all of it operator 4's.
 BETWEEN = (
     (None, None, (1, 175, 175)),
     (f"TAP 1 2 {{}} {SEVEN + 7_200} 50 BUS", f"OK {MONDAY} 350 350", (2, 350, 175)),
@@ -32,7 +34,10 @@ def boarded(account):
 
 def closed_with(posted):
     """The lines of a close of the Monday, by the version, the due and the amount of each account's posting."""
-    paid = [f"PAY {account} {MONDAY} {MONDAY} {version} {due} {amount} 4={amount}" for account, (version, due, amount) in posted.items()]
+    paid = [
+        f"PAY {account} {MONDAY} {MONDAY} {version} {due} {amount} 4={amount}"
+        for account, (version, due, amount) in posted.items()
+    ]
     return [*paid, f"DONE {MONDAY} {len(posted)}"]
 
 
@@ -40,35 +45,42 @@ def shuffled(accounts):
     return random.Random(3).sample(accounts, len(accounts))
 
 
-@test
-def many_accounts(_):
-    """Each is charged for a boarding, and then some of them for another, or given back what they paid or a part of it."""
-    accounts = range(1, ACCOUNTS + 1)
-    pairs = [(boarded(account), BOARDED) for account in shuffled(accounts)]
-    pairs.append((f"CLOSE {MONDAY}", "\n".join(closed_with(dict.fromkeys(accounts, (1, 175, 175))))))
-    for account in shuffled(accounts):
-        line, reply, _ = BETWEEN[account % len(BETWEEN)]
-        if line:
-            pairs.append((line.format(account), reply))
-    posted = {account: BETWEEN[account % len(BETWEEN)][2] for account in accounts}
-    pairs.append((f"CLOSE {MONDAY}", "\n".join(closed_with(posted))))
-    yield f"{ACCOUNTS:,} accounts, closed twice", *play(RUN, pairs)
+class ManyAccounts(Theme):
+    """As many accounts as there may be."""
 
+    def test_many_accounts(self):
+        """Each is charged for a boarding, and then some of them for another, or given back what they paid or a part of
+        it."""
+        accounts = range(1, ACCOUNTS + 1)
+        pairs = [(boarded(account), BOARDED) for account in shuffled(accounts)]
+        pairs.append((f"CLOSE {MONDAY}", "\n".join(closed_with(dict.fromkeys(accounts, (1, 175, 175))))))
+        for account in shuffled(accounts):
+            line, reply, _ = BETWEEN[account % len(BETWEEN)]
+            if line:
+                pairs.append((line.format(account), reply))
+        posted = {account: BETWEEN[account % len(BETWEEN)][2] for account in accounts}
+        pairs.append((f"CLOSE {MONDAY}", "\n".join(closed_with(posted))))
+        self.check(f"{ACCOUNTS:,} accounts, closed twice", *play(RUN, pairs))
 
-@test
-def many_accounts_over_lanes(folder):
-    """The same accounts over four lanes and four shards, closed at the end."""
-    lanes, accounts = 4, range(1, ACCOUNTS + 1)
-    lines = [f"{boarded(account)}\n".encode() for account in shuffled(accounts)]
-    path = os.path.join(folder, "replies")
-    with open(path, "wb") as it, serving(lanes, lanes, 1, stdout=it) as (ran, port, said):
-        replies = side_by_side([lambda lane=lane: talk_ahead(port + lane, lines[lane::lanes]) for lane in range(lanes)])
-        came = ended(ran, said)
-    for lane, text in enumerate(replies):
-        yield f"replies on lane {lane}", answers(text), answers(in_lines([BOARDED] * (ACCOUNTS // lanes) + ["BYE"]))
-    with open(path, "rb") as it:
-        wanted = in_lines(closed_with(dict.fromkeys(accounts, (1, 175, 175))))
-        yield f"{ACCOUNTS:,} accounts over lanes", came._replace(output=it.read()), closed(port, lanes, wanted)
+    def test_many_accounts_over_lanes(self):
+        """The same accounts over four lanes and four shards, closed at the end."""
+        lanes, accounts = 4, range(1, ACCOUNTS + 1)
+        lines = [f"{boarded(account)}\n".encode() for account in shuffled(accounts)]
+        path = os.path.join(self.folder, "replies")
+        with open(path, "wb") as it, serving(lanes, lanes, 1, stdout=it) as (ran, port, said):
+            replies = side_by_side([
+                lambda lane=lane: talk_ahead(port + lane, lines[lane::lanes]) for lane in range(lanes)
+            ])
+            came = ended(ran, said)
+        for lane, text in enumerate(replies):
+            self.check(
+                f"replies on lane {lane}", answers(text), answers(in_lines([BOARDED] * (ACCOUNTS // lanes) + ["BYE"]))
+            )
+        with open(path, "rb") as it:
+            wanted = in_lines(closed_with(dict.fromkeys(accounts, (1, 175, 175))))
+            self.check(
+                f"{ACCOUNTS:,} accounts over lanes", came._replace(output=it.read()), closed(port, lanes, wanted)
+            )
 
 
 STATIONS, OPERATORS, LONE = list(rules.SAMPLE.stations), rules.SAMPLE.operators, rules.SAMPLE.maximum
@@ -77,7 +89,8 @@ APART = 4
 
 
 def touched_out(number):
-    """The instant, the place and the kind of a touch out of this number: none is after a touch in, and each is alone."""
+    """The instant, the place and the kind of a touch out of this number: none is after a touch in, and each is
+    alone."""
     return BEGINS + APART * number, STATIONS[number % len(STATIONS)], "OUT"
 
 
@@ -90,13 +103,15 @@ def owed_alone(places, credits):
 
 def posted(through, version, due, before=(0, {})):
     """The lines of a close of account 7, by what is due with its shares and what was posted before it."""
-    amount, amounts = due[0] - before[0], {operator: pence - before[1].get(operator, 0) for operator, pence in due[1].items()}
+    amount = due[0] - before[0]
+    amounts = {operator: pence - before[1].get(operator, 0) for operator, pence in due[1].items()}
     shares = "".join(f" {operator}={pence}" for operator, pence in amounts.items() if pence)
     return f"PAY 7 {MONDAY} {through} {version} {due[0]} {amount}{shares}\nDONE {through} 1"
 
 
 def nearly_full():
-    """All taps and corrections but one that an account may have, with their replies; the places that are priced; and what Credits come to."""
+    """All taps and corrections but one that an account may have, with their replies; the places that are priced; and
+    what Credits come to."""
     pairs, places, credits = [], [], 0
 
     def add(line):
@@ -122,25 +137,31 @@ def nearly_full():
     return pairs, places, credits
 
 
-@test
-def full_account(_):
-    """An account that lacks one tap and one correction is closed, gets both late, and is closed again, and once more, and through Sunday."""
-    pairs, places, credits = nearly_full()
-    first = owed_alone(places, credits)
-    pairs.append((f"CLOSE {MONDAY}", posted(MONDAY, MOST_TAPS + MOST_FIXES - 2, first)))
-    places.append(12)
-    price, credits = LONE * len(places), credits + 1_000
-    priced = f"OK {MONDAY} {price} {price}"
-    pairs += [
-        (f"TAP 2 0 7 {touched_out(8_000)[0] + 1} 12 OUT", priced),
-        (f"FIX 3 {MOST_FIXES} 7 CREDIT {MONDAY} 1000", priced),
-        (f"TAP 2 1 7 {SEVEN} 50 BUS", "NO 21 AccountFull"),
-        (f"FIX 4 1 7 CREDIT {MONDAY} 1", "NO 23 FixesFull"),
-    ]
-    due, version = owed_alone(places, credits), MOST_TAPS + MOST_FIXES
-    pairs += 2 * [(f"CLOSE {MONDAY}", posted(MONDAY, version, due, first))]
-    pairs.append((f"CLOSE {MONDAY + 6}", posted(MONDAY + 6, version, due, due)))
-    yield f"an account of {MOST_TAPS:,} taps and {MOST_FIXES:,} corrections, closed four times", *play(RUN_SAMPLE, pairs)
+class FullAccounts(Theme):
+    """An account that is full."""
+
+    def test_full_account(self):
+        """An account that lacks one tap and one correction is closed, gets both late, and is closed again, and once
+        more, and through Sunday."""
+        pairs, places, credits = nearly_full()
+        first = owed_alone(places, credits)
+        pairs.append((f"CLOSE {MONDAY}", posted(MONDAY, MOST_TAPS + MOST_FIXES - 2, first)))
+        places.append(12)
+        price, credits = LONE * len(places), credits + 1_000
+        priced = f"OK {MONDAY} {price} {price}"
+        pairs += [
+            (f"TAP 2 0 7 {touched_out(8_000)[0] + 1} 12 OUT", priced),
+            (f"FIX 3 {MOST_FIXES} 7 CREDIT {MONDAY} 1000", priced),
+            (f"TAP 2 1 7 {SEVEN} 50 BUS", "NO 21 AccountFull"),
+            (f"FIX 4 1 7 CREDIT {MONDAY} 1", "NO 23 FixesFull"),
+        ]
+        due, version = owed_alone(places, credits), MOST_TAPS + MOST_FIXES
+        pairs += 2 * [(f"CLOSE {MONDAY}", posted(MONDAY, version, due, first))]
+        pairs.append((f"CLOSE {MONDAY + 6}", posted(MONDAY + 6, version, due, due)))
+        self.check(
+            f"an account of {MOST_TAPS:,} taps and {MOST_FIXES:,} corrections, closed four times",
+            *play(RUN_SAMPLE, pairs),
+        )
 
 
 # As many touches as may be priced of an account: each 17th is filled in, and the others are its taps.
@@ -154,35 +175,46 @@ def lines_of(touches):
         yield what.format(number, *words)
 
 
-@test
-def largest_statements(folder):
-    """As many journeys as an account can have in a week: lone touches of one day, which is shown too; and boardings with the longest rows."""
-    touches = [touched_out(number) for number in range(TOUCHES)]
-    lines = list(lines_of(touches))
-    rows = [f"{MONDAY},LONE,0,{place},{rules.clock(utc)},{LONE},-" for utc, place, _ in touches]
-    yield f"a statement of {TOUCHES:,} lone touches", stated(lines, 7, MONDAY), rows_of_statement(*rows)
-    journeys = [f"JNY LONE 0 {place} {utc} {LONE}" for utc, place, _ in touches]
-    shown = [f"SHOW 7 {MONDAY} {TOUCHES} {LONE * TOUCHES}", *journeys]
-    came = run(RUN_SAMPLE, in_lines([*lines, f"SHOW 7 {MONDAY}"]))
-    came = came._replace(output=b"".join(came.output.splitlines(keepends=True)[TOUCHES:]))
-    yield f"a day of {TOUCHES:,} lone touches, shown", came, answers(in_lines(shown))
-    # The longest numbers, and a band of three letters. A boarding pays if it comes more than a second after one that paid.
-    fares = rules.SAMPLE._replace(routes=[65_535], operators={**OPERATORS, 65_535: 16}, bus=100_000, hopper=1, bands=[rules.Band(0, 0, 100_000, 100_000)])
-    path = written(folder, "longest", rules.fare_file(fares).encode())
-    touches = [(BEGINS + 7 * A_DAY * number // TOUCHES, 65_535, "BUS") for number in range(TOUCHES)]
-    rows = [f"{rules.service_day(utc)},BUS,65535,0,{rules.clock(utc)},100000,bus" for utc, *_ in touches]
-    yield f"a statement of {TOUCHES:,} boardings", stated(list(lines_of(touches)), 7, MONDAY, fares=path), rows_of_statement(*rows)
+class LongRuns(Theme):
+    """The longest statements and inputs."""
 
+    def test_largest_statements(self):
+        """As many journeys as an account can have in a week: lone touches of one day, which is shown too; and boardings
+        with the longest rows."""
+        touches = [touched_out(number) for number in range(TOUCHES)]
+        lines = list(lines_of(touches))
+        rows = [f"{MONDAY},LONE,0,{place},{rules.clock(utc)},{LONE},-" for utc, place, _ in touches]
+        self.check(f"a statement of {TOUCHES:,} lone touches", stated(lines, 7, MONDAY), rows_of_statement(*rows))
+        journeys = [f"JNY LONE 0 {place} {utc} {LONE}" for utc, place, _ in touches]
+        shown = [f"SHOW 7 {MONDAY} {TOUCHES} {LONE * TOUCHES}", *journeys]
+        came = run(RUN_SAMPLE, in_lines([*lines, f"SHOW 7 {MONDAY}"]))
+        came = came._replace(output=b"".join(came.output.splitlines(keepends=True)[TOUCHES:]))
+        self.check(f"a day of {TOUCHES:,} lone touches, shown", came, answers(in_lines(shown)))
+        # The longest numbers, and a band of three letters. A boarding pays if it comes more than a second after one
+        # that paid.
+        fares = rules.SAMPLE._replace(
+            routes=[65_535], operators={**OPERATORS, 65_535: 16}, bus=100_000, hopper=1,
+            bands=[rules.Band(0, 0, 100_000, 100_000)],
+        )
+        path = written(self.folder, "longest", rules.fare_file(fares).encode())
+        touches = [(BEGINS + 7 * A_DAY * number // TOUCHES, 65_535, "BUS") for number in range(TOUCHES)]
+        rows = [f"{rules.service_day(utc)},BUS,65535,0,{rules.clock(utc)},100000,bus" for utc, *_ in touches]
+        self.check(
+            f"a statement of {TOUCHES:,} boardings",
+            stated(list(lines_of(touches)), 7, MONDAY, fares=path),
+            rows_of_statement(*rows),
+        )
 
-@test
-def long_inputs(folder):
-    """More lines than a million, and a line of more bytes than a hundred million, each before a boarding."""
-    first, reply = boardings(1)
-    many = 1_200_000
-    yield f"{many:,} empty lines", run(RUN, b"\n" * many + first), answers(b"NO 50 BadLine\n" * many + reply)
-    path = written(folder, "long", b"")
-    with open(path, "r+b") as it:
-        # What lies before it takes no place, and is read as zeros.
-        it.seek(1 << 28)
-        it.write(b"\n" + first)
-    yield "a line of 268,435,456 zero bytes in a file", run_file(RUN, path), answers(b"NO 51 LongLine\n" + reply)
+    def test_long_inputs(self):
+        """More lines than a million, and a line of more bytes than a hundred million, each before a boarding."""
+        first, reply = boardings(1)
+        many = 1_200_000
+        self.check(f"{many:,} empty lines", run(RUN, b"\n" * many + first), answers(b"NO 50 BadLine\n" * many + reply))
+        path = written(self.folder, "long", b"")
+        with open(path, "r+b") as it:
+            # What lies before it takes no place, and is read as zeros.
+            it.seek(1 << 28)
+            it.write(b"\n" + first)
+        self.check(
+            "a line of 268,435,456 zero bytes in a file", run_file(RUN, path), answers(b"NO 51 LongLine\n" + reply)
+        )

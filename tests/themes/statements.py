@@ -5,13 +5,13 @@ import select
 from oracle import rules
 from support.clocks import BY_SECONDS, FAR_EAST, INDIA, MEASURED, SUMMER_DAY
 from support.fares import BUS_BAND, MOST_TAPS, ZONES_1_TO_2
-from support.judging import test
 from support.repository import BUS, STATE
 from support.running import (
     MONDAY, SEVEN, End, cut, edited, end_of, in_lines, run, run_file, started, taps_of, trickle, written,
 )
 from support.sessions import BUS_DAY, CREDITS, FILLED, LEFT, ONE_SECOND, ZONE_DAY
 from support.statements import A_BOARDING, RAIL_AND_LONE, RAIL_AND_LONE_ROWS, rows_of_statement, stated
+from support.theme import Theme
 
 
 def days_after(days, rows):
@@ -25,7 +25,8 @@ MIXED_WEEK = [
     *BUS_DAY, (1704702600, 50, "BUS"),  # the last one at 08:30, free by the Hopper rule
     *days_after(1, RAIL_AND_LONE),  # Tuesday: 1020, capped by the band of zones 1 to 2
     *days_after(2, ZONE_DAY),  # Wednesday: 1200, capped by the band of zones 1 to 3
-    (1704960000, 50, "BUS"), (1704974400, 10, "IN"), (1704975600, 12, "OUT"),  # Thursday 08:00 and 12:00: 455, which no band gives
+    # Thursday 08:00 and 12:00: 455, which no band gives
+    (1704960000, 50, "BUS"), (1704974400, 10, "IN"), (1704975600, 12, "OUT"),
     *days_after(4, BUS_DAY), *days_after(4, ZONE_DAY[:2]),  # Friday: 1040, or 525 and 340
     (1705276799, 50, "BUS"), (1705292999, 12, "OUT"),  # Sunday 23:59:59, and 04:29:59 in its night
     (1705293000, 50, "BUS"),  # Monday 04:30:00, of the week after
@@ -88,13 +89,20 @@ CAPPED_DAY_ROWS = [
 ]
 # The last one arrives late, and is the first of the day.
 LATE_BOARDINGS = [(1704697200, 50, "BUS"), (1704700200, 50, "BUS"), (1704702200, 50, "BUS"), (1704696200, 50, "BUS")]
-LATE_ROWS = ["19730,BUS,50,0,06:43:20,175,-", "19730,BUS,50,0,07:00:00,0,-", "19730,BUS,50,0,07:50:00,175,-", "19730,BUS,50,0,08:23:20,0,-"]
+LATE_ROWS = [
+    "19730,BUS,50,0,06:43:20,175,-", "19730,BUS,50,0,07:00:00,0,-", "19730,BUS,50,0,07:50:00,175,-",
+    "19730,BUS,50,0,08:23:20,0,-",
+]
 # Among the lines that are taken are questions, lines of another account, and lines that are refused.
 LINES_AMONG = (
-    "DUE 7 19730", "TAP 1 1 7 1704697200 50 BUS", "TAP 1 1 7 1704697200 50 BUS", "SHOW 7 19730", "TAP 1 1 7 1704708000 50 BUS",
-    "TAP 1 2 7 1704708000 51 BUS", "TAP 1 2 7 604799 50 BUS", "TAP 01 2 7 1704708000 50 BUS", "TAP 1 2 7 1704708000 50 BUS ", "", "A" * 129,
-    "CLOSE 19730", "CLOSE 3", "FIX 3 1 7 VOID 1 9", "FIX 3 1 7 VOID 1 1", "FIX 3 2 7 FILL 1704708000 99 OUT", "FIX 3 2 7 FILL 604799 12 OUT",
-    "FIX 3 3 7 CREDIT 19730 100000", "TAP 1 1 8 1704700800 50 BUS", "quit", "QUIT ", "TAP 1 2 7 1704704400 10 IN", "DUE 7 19730",
+    "DUE 7 19730", "TAP 1 1 7 1704697200 50 BUS", "TAP 1 1 7 1704697200 50 BUS", "SHOW 7 19730",
+    "TAP 1 1 7 1704708000 50 BUS",
+    "TAP 1 2 7 1704708000 51 BUS", "TAP 1 2 7 604799 50 BUS", "TAP 01 2 7 1704708000 50 BUS",
+    "TAP 1 2 7 1704708000 50 BUS ", "", "A" * 129,
+    "CLOSE 19730", "CLOSE 3", "FIX 3 1 7 VOID 1 9", "FIX 3 1 7 VOID 1 1", "FIX 3 2 7 FILL 1704708000 99 OUT",
+    "FIX 3 2 7 FILL 604799 12 OUT",
+    "FIX 3 3 7 CREDIT 19730 100000", "TAP 1 1 8 1704700800 50 BUS", "quit", "QUIT ", "TAP 1 2 7 1704704400 10 IN",
+    "DUE 7 19730",
     "TAP 1 3 7 1704705600 12 OUT", "statement 7 19730",
 )
 ROWS_AMONG = [A_BOARDING, "19730,RAIL,10,12,09:00:00,340,-"]
@@ -118,11 +126,17 @@ STATED = {
     "no such account": (taps_of(BUS_DAY), 8, 19730, []),
     "no such account of the last number": (taps_of(BUS_DAY), 4_294_967_295, 19730, []),
     "the last account": (taps_of(BUS_DAY, 4_294_967_295), 4_294_967_295, 19730, FOUR_BUSES),
-    "an account without journeys": (["FIX 3 1 7 CREDIT 19730 100", "FIX 3 2 7 VOID 1 1", "TAP 1 1 7 1704697200 50 BUS"], 7, 19730, []),
+    "an account without journeys": (
+        ["FIX 3 1 7 CREDIT 19730 100", "FIX 3 2 7 VOID 1 1", "TAP 1 1 7 1704697200 50 BUS"], 7, 19730, []
+    ),
     "the week before": (taps_of(BUS_DAY), 7, 19729, []),
     "the week after": (taps_of(BUS_DAY), 7, 19737, []),
-    "the first and the last day of time": (taps_of([(604800, 50, "BUS"), (4102444799, 12, "IN")]), 7, 4, ["6,BUS,50,0,00:00:00,175,-"]),
-    "the last day of time": (taps_of([(604800, 50, "BUS"), (4102444799, 12, "IN")]), 7, 47484, ["47481,LONE,12,0,23:59:59,860,-"]),
+    "the first and the last day of time": (
+        taps_of([(604800, 50, "BUS"), (4102444799, 12, "IN")]), 7, 4, ["6,BUS,50,0,00:00:00,175,-"]
+    ),
+    "the last day of time": (
+        taps_of([(604800, 50, "BUS"), (4102444799, 12, "IN")]), 7, 47484, ["47481,LONE,12,0,23:59:59,860,-"]
+    ),
     "lines that are refused": (LINES_AMONG, 7, 19730, ROWS_AMONG),
     "the account beside it": (LINES_AMONG, 8, 19730, ["19730,BUS,50,0,08:00:00,175,-"]),
     "a summer day": ([line for line, _ in SUMMER_DAY[:-1]], 7, 19912, SUMMER_ROWS),
@@ -135,40 +149,54 @@ STATED = {
     ),
     "a Fill": ([line for line, _ in FILLED], 8, 19730, ["19730,RAIL,14,11,07:00:00,370,-"]),
     "what was voided and withdrawn": ([line for line, _ in FILLED], 7, 19730, []),
-    "a Void": ([line for line, _ in LEFT], 9, 19730, ["19730,BUS,50,0,08:00:00,175,-", "19730,BUS,50,0,14:00:00,175,-"]),
+    "a Void": (
+        [line for line, _ in LEFT], 9, 19730, ["19730,BUS,50,0,08:00:00,175,-", "19730,BUS,50,0,14:00:00,175,-"]
+    ),
     "a Void that was withdrawn": (
         [line for line, _ in LEFT], 7, 19730,
         ["19730,BUS,50,0,07:00:00,175,-", "19730,BUS,50,0,07:50:00,0,-", "19730,BUS,50,0,08:23:20,175,-"],
     ),
-    "one second": ([line for line, _ in ONE_SECOND], 11, 19730, ["19730,BUS,50,0,07:00:00,175,-", "19730,LONE,10,0,07:00:00,860,-"]),
+    "one second": (
+        [line for line, _ in ONE_SECOND], 11, 19730, ["19730,BUS,50,0,07:00:00,175,-", "19730,LONE,10,0,07:00:00,860,-"]
+    ),
     "Credits": ([line for line, _ in CREDITS], 7, 19730, [A_BOARDING]),
 }
 
 
-@test
-def rows_by_hand(_):
-    """The rows of each of these sessions."""
-    for name, (lines, account, day, rows) in STATED.items():
-        yield f"a statement: {name}", stated(lines, account, day), rows_of_statement(*rows)
+class Rows(Theme):
+    """The rows of a week."""
 
+    def test_rows_by_hand(self):
+        """The rows of each of these sessions."""
+        for name, (lines, account, day, rows) in STATED.items():
+            self.check(f"a statement: {name}", stated(lines, account, day), rows_of_statement(*rows))
 
-@test
-def a_week_of_several_bands(_):
-    """Whatever the order of the taps is, and by whichever of its days the week is asked for."""
-    for name, lines in (("", taps_of(MIXED_WEEK)), (" sent backwards", taps_of(MIXED_WEEK)[::-1])):
-        for day in range(MONDAY, MONDAY + 7):
-            yield f"a week of several bands{name}, asked for by day {day}", stated(lines, 7, day), rows_of_statement(*MIXED_ROWS)
-        yield f"the Sunday before it{name}", stated(lines, 7, MONDAY - 1), rows_of_statement("19729,BUS,50,0,04:29:59,175,-")
-        yield f"the Monday after it{name}", stated(lines, 7, MONDAY + 7), rows_of_statement("19737,BUS,50,0,04:30:00,175,-")
+    def test_a_week_of_several_bands(self):
+        """Whatever the order of the taps is, and by whichever of its days the week is asked for."""
+        for name, lines in (("", taps_of(MIXED_WEEK)), (" sent backwards", taps_of(MIXED_WEEK)[::-1])):
+            for day in range(MONDAY, MONDAY + 7):
+                self.check(
+                    f"a week of several bands{name}, asked for by day {day}",
+                    stated(lines, 7, day),
+                    rows_of_statement(*MIXED_ROWS),
+                )
+            self.check(
+                f"the Sunday before it{name}",
+                stated(lines, 7, MONDAY - 1),
+                rows_of_statement("19729,BUS,50,0,04:29:59,175,-"),
+            )
+            self.check(
+                f"the Monday after it{name}",
+                stated(lines, 7, MONDAY + 7),
+                rows_of_statement("19737,BUS,50,0,04:30:00,175,-"),
+            )
 
-
-@test
-def a_statement_of_many_rows(_):
-    """As many as an account may have taps."""
-    # Of 16,384 boardings a second apart each 3,601st pays, and the bus band caps these five.
-    lines = [f"TAP 1 {i} 7 {SEVEN + i} 50 BUS" for i in range(MOST_TAPS)]
-    rows = [f"19730,BUS,50,0,{rules.clock(25_200 + i)},{0 if i % 3_601 else 175},bus" for i in range(MOST_TAPS)]
-    yield "a statement of 16,384 rows", stated(lines, 7, MONDAY), rows_of_statement(*rows)
+    def test_a_statement_of_many_rows(self):
+        """As many as an account may have taps."""
+        # Of 16,384 boardings a second apart each 3,601st pays, and the bus band caps these five.
+        lines = [f"TAP 1 {i} 7 {SEVEN + i} 50 BUS" for i in range(MOST_TAPS)]
+        rows = [f"19730,BUS,50,0,{rules.clock(25_200 + i)},{0 if i % 3_601 else 175},bus" for i in range(MOST_TAPS)]
+        self.check("a statement of 16,384 rows", stated(lines, 7, MONDAY), rows_of_statement(*rows))
 
 
 # The clocks go back from 05:00 to 04:00 on Tuesday, and so from one service day to the one before it.
@@ -177,25 +205,44 @@ AROUND_TUESDAY = [(1704771000, 50, "BUS"), (1704772800, 50, "BUS"), (1704774600,
 AROUND_TUESDAY_ROWS = ["19731,BUS,50,0,04:30:00,175,-", "19730,BUS,50,0,04:00:00,0,-", "19731,BUS,50,0,04:30:00,0,-"]
 
 
-@test
-def statements_by_other_words(folder):
-    """The zone says what the clocks show, and the fare file what the bands are."""
-    for zone, row in (
-        ("EST5", "19729,BUS,50,0,02:00:00,175,-"), (INDIA, "19730,BUS,50,0,12:30:00,175,-"), (FAR_EAST, "19730,BUS,50,0,21:00:00,175,-"),
-        (BY_SECONDS, "19730,BUS,50,0,08:02:03,175,-"),
-    ):
-        day = row.partition(",")[0]
-        yield f"a statement in {zone}", stated(taps_of([(SEVEN, 50, "BUS")]), 7, day, zone=zone), rows_of_statement(row)
-    lines = taps_of(AROUND_TUESDAY)
-    yield "clocks that go back within the week", stated(lines, 7, 19731, zone=BACK_ON_TUESDAY), rows_of_statement(*AROUND_TUESDAY_ROWS)
-    without = [row.rpartition(",")[0] + ",-" for row in MIXED_ROWS]
-    yield "a week without bands", stated(taps_of(MIXED_WEEK), 7, MONDAY, fares=BUS), rows_of_statement(*without)
-    # Four boardings are 525 by either of two bands, of which the first wins.
-    same_cap = ZONES_1_TO_2.replace("890", "525")
-    for name, bands in (("bus", (BUS_BAND, same_cap)), ("1-2", (same_cap, BUS_BAND))):
-        fares = written(folder, "fares", edited(f"{BUS_BAND}\n  {ZONES_1_TO_2}", "\n  ".join(bands), "sample.toml"))
-        rows = [row.replace("bus", name) for row in FOUR_BUSES]
-        yield f"two bands of one cap, {name} first", stated(taps_of(BUS_DAY), 7, MONDAY, fares=fares), rows_of_statement(*rows)
+class OtherWords(Theme):
+    """Statements by other zones and fare files."""
+
+    def test_statements_by_other_words(self):
+        """The zone says what the clocks show, and the fare file what the bands are."""
+        for zone, row in (
+            ("EST5", "19729,BUS,50,0,02:00:00,175,-"), (INDIA, "19730,BUS,50,0,12:30:00,175,-"),
+            (FAR_EAST, "19730,BUS,50,0,21:00:00,175,-"),
+            (BY_SECONDS, "19730,BUS,50,0,08:02:03,175,-"),
+        ):
+            day = row.partition(",")[0]
+            self.check(
+                f"a statement in {zone}",
+                stated(taps_of([(SEVEN, 50, "BUS")]), 7, day, zone=zone),
+                rows_of_statement(row),
+            )
+        lines = taps_of(AROUND_TUESDAY)
+        self.check(
+            "clocks that go back within the week",
+            stated(lines, 7, 19731, zone=BACK_ON_TUESDAY),
+            rows_of_statement(*AROUND_TUESDAY_ROWS),
+        )
+        without = [row.rpartition(",")[0] + ",-" for row in MIXED_ROWS]
+        self.check(
+            "a week without bands", stated(taps_of(MIXED_WEEK), 7, MONDAY, fares=BUS), rows_of_statement(*without)
+        )
+        # Four boardings are 525 by either of two bands, of which the first wins.
+        same_cap = ZONES_1_TO_2.replace("890", "525")
+        for name, bands in (("bus", (BUS_BAND, same_cap)), ("1-2", (same_cap, BUS_BAND))):
+            fares = written(
+                self.folder, "fares", edited(f"{BUS_BAND}\n  {ZONES_1_TO_2}", "\n  ".join(bands), "sample.toml")
+            )
+            rows = [row.replace("bus", name) for row in FOUR_BUSES]
+            self.check(
+                f"two bands of one cap, {name} first",
+                stated(taps_of(BUS_DAY), 7, MONDAY, fares=fares),
+                rows_of_statement(*rows),
+            )
 
 
 def unended(lines):
@@ -208,19 +255,25 @@ def unended(lines):
         return end_of(ran)
 
 
-@test
-def statements_of_streams(folder):
-    """The lines are read to their end or to QUIT, however they come, and the statement is written then."""
-    lines, wanted = in_lines(taps_of(RAIL_AND_LONE)), rows_of_statement(*RAIL_AND_LONE_ROWS)
-    more = in_lines(taps_of(BUS_DAY))
-    path = written(folder, "lines", lines + b"QUIT\n" + more)
-    yield "a statement, QUIT and more lines", run(STATE, lines + b"QUIT\n" + more), wanted
-    yield "a statement, QUIT and more lines in a file", run_file(STATE, path, leaves=True), wanted._replace(left=more)
-    yield "a statement, lines in a file", run_file(STATE, written(folder, "lines", lines)), wanted
-    yield "a statement, QUIT first", run(STATE, b"QUIT\n" + lines), rows_of_statement()
-    for rest in (b"TAP 1 8 7 1704722400 50 BUS", b"QUIT", b"A" * 200):
-        yield f"a statement, a last line of {len(rest)} bytes without its end", run(STATE, lines + rest), wanted
-    yield "a statement, lines in pieces", trickle(cut(lines, 3), 0.0005, STATE), wanted
-    yield "a statement, QUIT in two pieces", trickle([lines + b"QU", b"IT\n" + more], 0.05, STATE), wanted
-    yield "a statement, and an input left open after QUIT", unended(lines), wanted
-    yield "a statement, a line of 17,000,000 bytes", run(STATE, b"A" * 17_000_000 + b"\n" + lines), wanted
+class Streams(Theme):
+    """Statements of lines however they come."""
+
+    def test_statements_of_streams(self):
+        """The lines are read to their end or to QUIT, however they come, and the statement is written then."""
+        lines, wanted = in_lines(taps_of(RAIL_AND_LONE)), rows_of_statement(*RAIL_AND_LONE_ROWS)
+        more = in_lines(taps_of(BUS_DAY))
+        path = written(self.folder, "lines", lines + b"QUIT\n" + more)
+        self.check("a statement, QUIT and more lines", run(STATE, lines + b"QUIT\n" + more), wanted)
+        self.check(
+            "a statement, QUIT and more lines in a file", run_file(STATE, path, leaves=True), wanted._replace(left=more)
+        )
+        self.check("a statement, lines in a file", run_file(STATE, written(self.folder, "lines", lines)), wanted)
+        self.check("a statement, QUIT first", run(STATE, b"QUIT\n" + lines), rows_of_statement())
+        for rest in (b"TAP 1 8 7 1704722400 50 BUS", b"QUIT", b"A" * 200):
+            self.check(
+                f"a statement, a last line of {len(rest)} bytes without its end", run(STATE, lines + rest), wanted
+            )
+        self.check("a statement, lines in pieces", trickle(cut(lines, 3), 0.0005, STATE), wanted)
+        self.check("a statement, QUIT in two pieces", trickle([lines + b"QU", b"IT\n" + more], 0.05, STATE), wanted)
+        self.check("a statement, and an input left open after QUIT", unended(lines), wanted)
+        self.check("a statement, a line of 17,000,000 bytes", run(STATE, b"A" * 17_000_000 + b"\n" + lines), wanted)

@@ -1,4 +1,5 @@
-"""Output that cannot be written, input that cannot be read, errors that cannot be told, and which fault of several comes first."""
+"""Output that cannot be written, input that cannot be read, errors that cannot be told, and which fault of several
+comes first."""
 
 import contextlib
 import os
@@ -8,7 +9,6 @@ import socket
 import subprocess
 
 from support.clocks import SUMMER_DAY
-from support.judging import test
 from support.repository import CHECK, COUNTED, LONDON, STATE
 from support.running import (
     FARES, MISSING, RUN, USAGE, End, answers, boardings, closing, edited, end_of, fault, heard, in_lines, opened_pipe,
@@ -16,6 +16,7 @@ from support.running import (
 )
 from support.sessions import LATE_LINES, LATE_REPLIES
 from support.statements import A_BOARDING, RAIL_AND_LONE, RAIL_AND_LONE_ROWS, rows_of_statement
+from support.theme import Theme
 
 
 @contextlib.contextmanager
@@ -28,35 +29,49 @@ def opened_folder():
         os.close(folder)
 
 
-@test
-def first_fault(folder):
-    """Of several faults the first is told, and the input is left as it was."""
-    refused = written(folder, "refused", edited("hopper = 3600", "hopper = 0"))
-    lines, _ = boardings(2)
-    path = written(folder, "lines", lines)
-    for name, given, wanted in (
-        ("too many words, no fare file, bad zone", ["run", MISSING, "no zone", "more"], USAGE),
-        ("too many words, refused fare file, bad zone", ["run", refused, "no zone", "more"], USAGE),
-        ("no fare file, bad zone", ["run", MISSING, "no zone"], fault("cannot read fares")),
-        ("refused fare file, bad zone", ["run", refused, "no zone"], fault("13 OutOfRange")),
-        ("refused fare file", ["run", refused, LONDON], fault("13 OutOfRange")),
-        ("bad zone", ["run", FARES, "no zone"], fault("bad zone")),
-        ("too many words, no fare file to check", ["check", MISSING, "more"], USAGE),
-        ("no fare file to check", ["check", MISSING], fault("cannot read fares")),
-        ("refused fare file to check", ["check", refused], fault("13 OutOfRange")),
-        ("no account, no fare file, bad zone", ["statement", MISSING, "no zone", "0", "19730"], USAGE),
-        ("no day, refused fare file, bad zone", ["statement", refused, "no zone", "7", "3"], USAGE),
-        ("no fare file for a statement, bad zone", ["statement", MISSING, "no zone", *STATE[3:]], fault("cannot read fares")),
-        ("refused fare file for a statement, bad zone", ["statement", refused, "no zone", *STATE[3:]], fault("13 OutOfRange")),
-        ("bad zone for a statement", ["statement", FARES, "no zone", *STATE[3:]], fault("bad zone")),
-    ):
+class FirstFaults(Theme):
+    """Which of several faults is told."""
+
+    def test_first_fault(self):
+        """Of several faults the first is told, and the input is left as it was."""
+        refused = written(self.folder, "refused", edited("hopper = 3600", "hopper = 0"))
+        lines, _ = boardings(2)
+        path = written(self.folder, "lines", lines)
+        for name, given, wanted in (
+            ("too many words, no fare file, bad zone", ["run", MISSING, "no zone", "more"], USAGE),
+            ("too many words, refused fare file, bad zone", ["run", refused, "no zone", "more"], USAGE),
+            ("no fare file, bad zone", ["run", MISSING, "no zone"], fault("cannot read fares")),
+            ("refused fare file, bad zone", ["run", refused, "no zone"], fault("13 OutOfRange")),
+            ("refused fare file", ["run", refused, LONDON], fault("13 OutOfRange")),
+            ("bad zone", ["run", FARES, "no zone"], fault("bad zone")),
+            ("too many words, no fare file to check", ["check", MISSING, "more"], USAGE),
+            ("no fare file to check", ["check", MISSING], fault("cannot read fares")),
+            ("refused fare file to check", ["check", refused], fault("13 OutOfRange")),
+            ("no account, no fare file, bad zone", ["statement", MISSING, "no zone", "0", "19730"], USAGE),
+            ("no day, refused fare file, bad zone", ["statement", refused, "no zone", "7", "3"], USAGE),
+            (
+                "no fare file for a statement, bad zone",
+                ["statement", MISSING, "no zone", *STATE[3:]],
+                fault("cannot read fares"),
+            ),
+            (
+                "refused fare file for a statement, bad zone",
+                ["statement", refused, "no zone", *STATE[3:]],
+                fault("13 OutOfRange"),
+            ),
+            ("bad zone for a statement", ["statement", FARES, "no zone", *STATE[3:]], fault("bad zone")),
+        ):
+            with opened_folder() as bad_input, open("/dev/full", "wb") as full:
+                came = run(given, stdin=bad_input, stdout=full)
+            self.check(f"{name}, bad input and no room for output", came, wanted._replace(output=None))
+            self.check(f"{name}, with lines in a file", run_file(given, path, leaves=True), wanted._replace(left=lines))
         with opened_folder() as bad_input, open("/dev/full", "wb") as full:
-            came = run(given, stdin=bad_input, stdout=full)
-        yield f"{name}, bad input and no room for output", came, wanted._replace(output=None)
-        yield f"{name}, with lines in a file", run_file(given, path, leaves=True), wanted._replace(left=lines)
-    with opened_folder() as bad_input, open("/dev/full", "wb") as full:
-        for given in (RUN, STATE):
-            yield f"bad input and no room for output of {given[0]}", run(given, stdin=bad_input, stdout=full), fault("input fault", output=None)
+            for given in (RUN, STATE):
+                self.check(
+                    f"bad input and no room for output of {given[0]}",
+                    run(given, stdin=bad_input, stdout=full),
+                    fault("input fault", output=None),
+                )
 
 
 def to_full(given, lines):
@@ -92,24 +107,6 @@ UNWRITABLE = {
 }
 
 
-@test
-def outputs_that_fail(_):
-    """Output that cannot be written."""
-    for name, put in UNWRITABLE.items():
-        for what, given, lines in (
-            ("a line", RUN, b"\n"),
-            ("QUIT", RUN, b"QUIT\n"),
-            ("help", ["--help"], b""),
-            ("help for run", ["help", "run"], b""),
-            ("help for statement", ["help", "statement"], b""),
-            ("what a fare file has", CHECK, b""),
-            ("a statement without rows", STATE, b""),
-            ("a statement", STATE, boardings(7)[0]),
-        ):
-            yield f"{what}, and an output {name}", put(given, lines), fault("output fault", output=None)
-        yield f"no lines, and an output {name}", put(RUN, b""), End(0, None)
-
-
 def to_one_who_goes():
     """What a session comes to whose reader goes after the first reply."""
     first, reply = boardings(1)
@@ -119,12 +116,6 @@ def to_one_who_goes():
         ran.stdout.close()
         ran.stdin.write(first)
         return end_of(ran, output)
-
-
-@test
-def readers_that_go(_):
-    """Output that can be written no more."""
-    yield "a reader that goes after the first reply", to_one_who_goes(), fault("output fault", boardings(1)[1])
 
 
 def to_a_file_of(room, folder, given, lines):
@@ -141,28 +132,66 @@ def to_a_file_of(room, folder, given, lines):
         return came._replace(output=it.read())
 
 
-@test
-def outputs_with_room(folder):
-    """The replies that fit are there, and of the next one the bytes that fit."""
-    for given, (lines, replies) in ((RUN, session(SUMMER_DAY)), (CHECK, (b"", COUNTED))):
-        for room in range(len(replies)):
-            yield f"{given[0]}, an output with room for {room} bytes", to_a_file_of(room, folder, given, lines), fault("output fault", replies[:room])
-        yield f"{given[0]}, an output with just the room", to_a_file_of(len(replies), folder, given, lines), answers(replies)
-
-
 def begun(came, text):
     """The same, but for an output that is the beginning of a text."""
     return came._replace(output=None) if text.startswith(came.output) else came
 
 
-@test
-def statements_cut(folder):
-    """A statement, and an output with room for a part of it. How much of it is then written is open."""
-    lines, text = in_lines(taps_of(RAIL_AND_LONE)), rows_of_statement(*RAIL_AND_LONE_ROWS).output
-    for room in range(len(text)):
-        came = to_a_file_of(room, folder, STATE, lines)
-        yield f"a statement, an output with room for {room} bytes", begun(came, text), fault("output fault", output=None)
-    yield "a statement, an output with just the room", to_a_file_of(len(text), folder, STATE, lines), answers(text)
+class Outputs(Theme):
+    """Outputs that cannot be written."""
+
+    def test_outputs_that_fail(self):
+        """Output that cannot be written."""
+        for name, put in UNWRITABLE.items():
+            for what, given, lines in (
+                ("a line", RUN, b"\n"),
+                ("QUIT", RUN, b"QUIT\n"),
+                ("help", ["--help"], b""),
+                ("help for run", ["help", "run"], b""),
+                ("help for statement", ["help", "statement"], b""),
+                ("what a fare file has", CHECK, b""),
+                ("a statement without rows", STATE, b""),
+                ("a statement", STATE, boardings(7)[0]),
+            ):
+                self.check(f"{what}, and an output {name}", put(given, lines), fault("output fault", output=None))
+            self.check(f"no lines, and an output {name}", put(RUN, b""), End(0, None))
+
+    def test_readers_that_go(self):
+        """Output that can be written no more."""
+        self.check(
+            "a reader that goes after the first reply", to_one_who_goes(), fault("output fault", boardings(1)[1])
+        )
+
+    def test_outputs_with_room(self):
+        """The replies that fit are there, and of the next one the bytes that fit."""
+        for given, (lines, replies) in ((RUN, session(SUMMER_DAY)), (CHECK, (b"", COUNTED))):
+            for room in range(len(replies)):
+                self.check(
+                    f"{given[0]}, an output with room for {room} bytes",
+                    to_a_file_of(room, self.folder, given, lines),
+                    fault("output fault", replies[:room]),
+                )
+            self.check(
+                f"{given[0]}, an output with just the room",
+                to_a_file_of(len(replies), self.folder, given, lines),
+                answers(replies),
+            )
+
+    def test_statements_cut(self):
+        """A statement, and an output with room for a part of it. How much of it is then written is open."""
+        lines, text = in_lines(taps_of(RAIL_AND_LONE)), rows_of_statement(*RAIL_AND_LONE_ROWS).output
+        for room in range(len(text)):
+            came = to_a_file_of(room, self.folder, STATE, lines)
+            self.check(
+                f"a statement, an output with room for {room} bytes",
+                begun(came, text),
+                fault("output fault", output=None),
+            )
+        self.check(
+            "a statement, an output with just the room",
+            to_a_file_of(len(text), self.folder, STATE, lines),
+            answers(text),
+        )
 
 
 def broken_off(given, words=RUN):
@@ -177,59 +206,77 @@ def broken_off(given, words=RUN):
             return end_of(ran)
 
 
-@test
-def input_faults(folder):
-    """Input that cannot be read."""
-    lines, replies = boardings(4)
-    bad = fault("input fault")
-    with opened_folder() as it:
-        yield "a folder as input", run(RUN, stdin=it), bad
-    yield "input closed", run(RUN, stdin=subprocess.DEVNULL, **closing(0)), bad
-    with open(os.path.join(folder, "written"), "wb") as it:
-        yield "an input that is for writing", run(RUN, stdin=it), bad
-    for name, rest in (("", b""), (" and a cut line", b"TAP 1 1 7"), (" and a cut long line", b"A" * 200)):
-        yield f"four lines{name}, and a connection that breaks", broken_off(lines + rest), bad._replace(output=replies)
-    yield "four lines and QUIT, and a connection that breaks", broken_off(lines + b"QUIT\n"), answers(replies + b"BYE\n")
+class Inputs(Theme):
+    """Inputs that cannot be read."""
+
+    def test_input_faults(self):
+        """Input that cannot be read."""
+        lines, replies = boardings(4)
+        bad = fault("input fault")
+        with opened_folder() as it:
+            self.check("a folder as input", run(RUN, stdin=it), bad)
+        self.check("input closed", run(RUN, stdin=subprocess.DEVNULL, **closing(0)), bad)
+        with open(os.path.join(self.folder, "written"), "wb") as it:
+            self.check("an input that is for writing", run(RUN, stdin=it), bad)
+        for name, rest in (("", b""), (" and a cut line", b"TAP 1 1 7"), (" and a cut long line", b"A" * 200)):
+            self.check(
+                f"four lines{name}, and a connection that breaks",
+                broken_off(lines + rest),
+                bad._replace(output=replies),
+            )
+        self.check(
+            "four lines and QUIT, and a connection that breaks",
+            broken_off(lines + b"QUIT\n"),
+            answers(replies + b"BYE\n"),
+        )
+
+    def test_connections_that_break(self):
+        """A session whose input breaks after each of its bytes: the lines before are answered, and no more is read."""
+        lines = in_lines(LATE_LINES)
+        for end in range(len(lines) + 1):
+            whole = lines[:end].count(b"\n")
+            self.check(
+                f"{end} bytes, and a connection that breaks",
+                broken_off(lines[:end]),
+                fault("input fault", in_lines(LATE_REPLIES[:whole])),
+            )
+
+    def test_input_faults_of_statements(self):
+        """The same of a statement, of which nothing is then written."""
+        lines, _ = boardings(7)
+        bad = fault("input fault")
+        with opened_folder() as it:
+            self.check("a statement, and a folder as input", run(STATE, stdin=it), bad)
+        self.check("a statement, and input closed", run(STATE, stdin=subprocess.DEVNULL, **closing(0)), bad)
+        with open(os.path.join(self.folder, "written"), "wb") as it:
+            self.check("a statement, and an input that is for writing", run(STATE, stdin=it), bad)
+        for name, rest in (("", b""), (" and a cut line", b"TAP 1 1 7"), (" and a cut long line", b"A" * 200)):
+            self.check(
+                f"a statement of seven lines{name}, and a connection that breaks", broken_off(lines + rest, STATE), bad
+            )
+        self.check(
+            "a statement of seven lines and QUIT, and a connection that breaks",
+            broken_off(lines + b"QUIT\n", STATE),
+            rows_of_statement(A_BOARDING),
+        )
 
 
-@test
-def connections_that_break(_):
-    """A session whose input breaks after each of its bytes: the lines before are answered, and no more is read."""
-    lines = in_lines(LATE_LINES)
-    for end in range(len(lines) + 1):
-        whole = lines[:end].count(b"\n")
-        yield f"{end} bytes, and a connection that breaks", broken_off(lines[:end]), fault("input fault", in_lines(LATE_REPLIES[:whole]))
+class Errors(Theme):
+    """Errors that cannot be told."""
 
-
-@test
-def input_faults_of_statements(folder):
-    """The same of a statement, of which nothing is then written."""
-    lines, _ = boardings(7)
-    bad = fault("input fault")
-    with opened_folder() as it:
-        yield "a statement, and a folder as input", run(STATE, stdin=it), bad
-    yield "a statement, and input closed", run(STATE, stdin=subprocess.DEVNULL, **closing(0)), bad
-    with open(os.path.join(folder, "written"), "wb") as it:
-        yield "a statement, and an input that is for writing", run(STATE, stdin=it), bad
-    for name, rest in (("", b""), (" and a cut line", b"TAP 1 1 7"), (" and a cut long line", b"A" * 200)):
-        yield f"a statement of seven lines{name}, and a connection that breaks", broken_off(lines + rest, STATE), bad
-    yield "a statement of seven lines and QUIT, and a connection that breaks", broken_off(lines + b"QUIT\n", STATE), rows_of_statement(A_BOARDING)
-
-
-@test
-def errors_untold(_):
-    """A fault has its status where its line cannot be told."""
-    for name, given, status in (
-        ("refused words", ["fly"], 2),
-        ("no fare file", ["run", MISSING, LONDON], 1),
-        ("bad zone", ["run", FARES, ""], 1),
-        ("no fare file to check", ["check", MISSING], 1),
-        ("no fare file for a statement", ["statement", MISSING, *STATE[2:]], 1),
-        ("no account for a statement", [*STATE[:3], "0", "19730"], 2),
-    ):
-        wanted = End(status, errors=None)
-        with open("/dev/full", "wb") as full:
-            yield f"{name}, and no room for errors", run(given, stderr=full), wanted
-        with opened_pipe() as pipe:
-            yield f"{name}, and errors that nobody reads", run(given, stderr=pipe), wanted
-        yield f"{name}, and errors closed", run(given, stderr=None, **closing(2)), wanted
+    def test_errors_untold(self):
+        """A fault has its status where its line cannot be told."""
+        for name, given, status in (
+            ("refused words", ["fly"], 2),
+            ("no fare file", ["run", MISSING, LONDON], 1),
+            ("bad zone", ["run", FARES, ""], 1),
+            ("no fare file to check", ["check", MISSING], 1),
+            ("no fare file for a statement", ["statement", MISSING, *STATE[2:]], 1),
+            ("no account for a statement", [*STATE[:3], "0", "19730"], 2),
+        ):
+            wanted = End(status, errors=None)
+            with open("/dev/full", "wb") as full:
+                self.check(f"{name}, and no room for errors", run(given, stderr=full), wanted)
+            with opened_pipe() as pipe:
+                self.check(f"{name}, and errors that nobody reads", run(given, stderr=pipe), wanted)
+            self.check(f"{name}, and errors closed", run(given, stderr=None, **closing(2)), wanted)

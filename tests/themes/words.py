@@ -2,10 +2,10 @@
 
 import os
 
-from support.judging import test
 from support.repository import CHECK, LONDON, ROOT, STATE
 from support.running import FARES, MISSING, RUN, USAGE, End, answers, boardings, fault, read, run, written
 from support.statements import A_BOARDING, rows_of_statement
+from support.theme import Theme
 
 OPTIONS = ["--port", "9000", "--lanes", "2", "--shards", "4", "--sessions", "1", "--close", "19730"]
 SERVE = ["serve", FARES, LONDON, *OPTIONS]
@@ -263,54 +263,67 @@ The lines, the journal, the ledger and the faults are described in docs/FORMATS.
 """
 VERSION = b"farebox 0.1.0\n"
 
-
-@test
-def help_texts(_):
-    """Help and the version, to standard output."""
-    lines, _ = boardings(2)
-    asked = (
-        (PROGRAM_HELP, (["--help"], ["-h"], ["help"], ["--help", "run"], ["-h", "check"], ["-h", "statement"])),
-        (RUN_HELP, (["run", "--help"], ["run", "-h"], ["help", "run"], ["run", MISSING, "no zone", "--help"])),
-        (CHECK_HELP, (
-            ["check", "--help"], ["check", "-h"], ["help", "check"], ["check", MISSING, "--help"], ["check", "--lint", "-h"],
-            ["check", MISSING, "--after", "50000", "--help", "--after", "50001"],
-        )),
-        (STATEMENT_HELP, (
-            ["statement", "--help"], ["statement", "-h"], ["help", "statement"], ["statement", MISSING, "no zone", "--help"],
-            ["statement", "-h", "no", "words", "of", "it"], [*STATE, "-h"],
-        )),
-        (REPLAY_HELP, (
-            ["replay", "--help"], ["replay", "-h"], ["help", "replay"], ["replay", MISSING, "no zone", MISSING, "--help"],
-        )),
-        (SERVE_HELP, (
-            ["serve", "--help"], ["serve", "-h"], ["help", "serve"], ["serve", MISSING, "--help"], [*SERVE, "-h"],
-            ["serve", "--lanes", "15", "--help", "--lanes", "16"], ["serve", "--port=1", "-h"],
-        )),
-        (AUDIT_HELP, (["audit", "--help"], ["help", "audit"], ["audit", MISSING, "-h"], ["audit", "--journal", MISSING, "--help"])),
-        (REBUILD_HELP, (["rebuild", "--help"], ["help", "rebuild"], ["rebuild", MISSING, "-h"])),
-    )
-    for text, each in asked:
-        for given in each:
-            yield f"help by the words {given}", run(given, lines), answers(text)
-    for given in (["--version"], ["-V"]):
-        yield f"the version by the words {given}", run(given, lines), answers(VERSION)
-
-
 # Words after options that ask for help or the version, and words that are refused.
 MORE_WORDS = (
-    (["-hV"], PROGRAM_HELP), (["--help", "--version"], PROGRAM_HELP), ([*RUN, "-h"], RUN_HELP), (["check", FARES, "-h"], CHECK_HELP),
-    ([*STATE, "--help"], STATEMENT_HELP), ([*STATE[:4], "-h"], STATEMENT_HELP), (["-V", "statement"], VERSION), (["statement", "-V"], None),
-    (["-Vh"], VERSION), (["-Vx"], VERSION), (["--version", "--help"], VERSION), (["-V", *RUN], VERSION), (["-V", "check"], VERSION),
-    (["--version=1"], None), (["--", "--version"], None), (["version"], None), (["run", "--version"], None), (["run", "-V"], None),
-    ([*RUN, "-Vh"], None), (["check", "--version"], None), (["check", FARES, "--", "more"], None), (["check", "-fares"], None),
+    (["-hV"], PROGRAM_HELP), (["--help", "--version"], PROGRAM_HELP), ([*RUN, "-h"], RUN_HELP),
+    (["check", FARES, "-h"], CHECK_HELP),
+    ([*STATE, "--help"], STATEMENT_HELP), ([*STATE[:4], "-h"], STATEMENT_HELP), (["-V", "statement"], VERSION),
+    (["statement", "-V"], None),
+    (["-Vh"], VERSION), (["-Vx"], VERSION), (["--version", "--help"], VERSION), (["-V", *RUN], VERSION),
+    (["-V", "check"], VERSION),
+    (["--version=1"], None), (["--", "--version"], None), (["version"], None), (["run", "--version"], None),
+    (["run", "-V"], None),
+    ([*RUN, "-Vh"], None), (["check", "--version"], None), (["check", FARES, "--", "more"], None),
+    (["check", "-fares"], None),
 )
 
 
-@test
-def words_around_options(_):
-    """Words around the options that ask for help or the version."""
-    for given, text in MORE_WORDS:
-        yield f"the words {given}", run(given), USAGE if text is None else answers(text)
+class Help(Theme):
+    """Help and the version."""
+
+    def test_help_texts(self):
+        """Help and the version, to standard output."""
+        lines, _ = boardings(2)
+        asked = (
+            (PROGRAM_HELP, (["--help"], ["-h"], ["help"], ["--help", "run"], ["-h", "check"], ["-h", "statement"])),
+            (RUN_HELP, (["run", "--help"], ["run", "-h"], ["help", "run"], ["run", MISSING, "no zone", "--help"])),
+            (CHECK_HELP, (
+                ["check", "--help"], ["check", "-h"], ["help", "check"], ["check", MISSING, "--help"],
+                ["check", "--lint", "-h"],
+                ["check", MISSING, "--after", "50000", "--help", "--after", "50001"],
+            )),
+            (STATEMENT_HELP, (
+                ["statement", "--help"], ["statement", "-h"], ["help", "statement"],
+                ["statement", MISSING, "no zone", "--help"],
+                ["statement", "-h", "no", "words", "of", "it"], [*STATE, "-h"],
+            )),
+            (REPLAY_HELP, (
+                ["replay", "--help"], ["replay", "-h"], ["help", "replay"],
+                ["replay", MISSING, "no zone", MISSING, "--help"],
+            )),
+            (SERVE_HELP, (
+                ["serve", "--help"], ["serve", "-h"], ["help", "serve"], ["serve", MISSING, "--help"], [*SERVE, "-h"],
+                ["serve", "--lanes", "15", "--help", "--lanes", "16"], ["serve", "--port=1", "-h"],
+            )),
+            (
+                AUDIT_HELP,
+                (
+                    ["audit", "--help"], ["help", "audit"], ["audit", MISSING, "-h"],
+                    ["audit", "--journal", MISSING, "--help"],
+                ),
+            ),
+            (REBUILD_HELP, (["rebuild", "--help"], ["help", "rebuild"], ["rebuild", MISSING, "-h"])),
+        )
+        for text, each in asked:
+            for given in each:
+                self.check(f"help by the words {given}", run(given, lines), answers(text))
+        for given in (["--version"], ["-V"]):
+            self.check(f"the version by the words {given}", run(given, lines), answers(VERSION))
+
+    def test_words_around_options(self):
+        """Words around the options that ask for help or the version."""
+        for given, text in MORE_WORDS:
+            self.check(f"the words {given}", run(given), USAGE if text is None else answers(text))
 
 
 REFUSED_WORDS = (
@@ -318,40 +331,41 @@ REFUSED_WORDS = (
     [], [""], ["fly"], ["RUN", FARES, LONDON], ["run "], [FARES, LONDON], ["--", *RUN], ["help", "fly"],
     # Too few, and too many.
     ["run"], ["run", FARES], ["run", "--", FARES], [*RUN, "more"], [*RUN, ""], [*RUN, "--", "more"], ["run", *RUN],
-    ["check"], ["check", "--"], [*CHECK, LONDON], [*CHECK, ""], [*CHECK, "--", "more"], ["check", *CHECK], ["--", *CHECK], ["CHECK", FARES],
-    *(STATE[:count] for count in range(1, len(STATE))), [*STATE[:3], "--", "19730"], ["statement", *RUN], ["run", *STATE], ["STATEMENT", *STATE[1:]],
-    [*STATE, "more"], [*STATE, ""], [*STATE, "--", "more"], ["statement", *STATE], ["--", *STATE], ["statements", *STATE[1:]], [*RUN, "7", "19730"],
+    ["check"], ["check", "--"], [*CHECK, LONDON], [*CHECK, ""], [*CHECK, "--", "more"], ["check", *CHECK],
+    ["--", *CHECK], ["CHECK", FARES],
+    *(STATE[:count] for count in range(1, len(STATE))), [*STATE[:3], "--", "19730"], ["statement", *RUN],
+    ["run", *STATE], ["STATEMENT", *STATE[1:]],
+    [*STATE, "more"], [*STATE, ""], [*STATE, "--", "more"], ["statement", *STATE], ["--", *STATE],
+    ["statements", *STATE[1:]], [*RUN, "7", "19730"],
     # Of an audit and of the lines of a ledger; and an option of others.
     ["audit"], ["audit", FARES, LONDON], ["audit", FARES, "--journal", MISSING], ["audit", FARES, LONDON, "--journal"],
-    ["audit", FARES, LONDON, "--journal", MISSING, "--journal", MISSING], ["audit", FARES, LONDON, "--journal", MISSING, "more"],
-    ["audit", FARES, LONDON, "--journal", MISSING, "--early"], ["rebuild"], ["rebuild", FARES], ["rebuild", FARES, MISSING, "more"],
-    ["rebuild", FARES, "--ledger", MISSING], [*RUN, "--early", "--early"], [*RUN, "--early=1"], ["check", FARES, "--early"],
+    ["audit", FARES, LONDON, "--journal", MISSING, "--journal", MISSING],
+    ["audit", FARES, LONDON, "--journal", MISSING, "more"],
+    ["audit", FARES, LONDON, "--journal", MISSING, "--early"], ["rebuild"], ["rebuild", FARES],
+    ["rebuild", FARES, MISSING, "more"],
+    ["rebuild", FARES, "--ledger", MISSING], [*RUN, "--early", "--early"], [*RUN, "--early=1"],
+    ["check", FARES, "--early"],
     [*STATE, "--early"], ["replay", FARES, LONDON, MISSING, "--early"],
     # Unknown options.
     ["--fly"], ["-f"], ["--fly", *RUN], ["run", "--fly", FARES, LONDON], [*RUN, "--fly"], ["run", FARES, "-UTC0"],
     ["check", "--fly", FARES], [*CHECK, "-f"], [*CHECK, "--version"],
-    ["statement", "--fly", *STATE[1:]], [*STATE, "--fly"], [*STATE, "--version"], [*STATE[:3], "--", "-7", "19730"], [*STATE[:4], "--", "-1"],
+    ["statement", "--fly", *STATE[1:]], [*STATE, "--fly"], [*STATE, "--version"], [*STATE[:3], "--", "-7", "19730"],
+    [*STATE[:4], "--", "-1"],
     # No text.
     [b"\xff"], ["run", b"\xff", LONDON], ["run", FARES, b"UTC0\xff"], [*RUN, b"\xc3"], ["check", b"\xff"],
     [*STATE[:3], b"7\xff", "19730"], [*STATE[:4], b"\xff"], ["statement", b"\xff", *STATE[2:]],
 )
 
-
-@test
-def refused_words(_):
-    """Words that are refused."""
-    lines, _ = boardings(2)
-    for given in REFUSED_WORDS:
-        yield f"the words {given}", run(given, lines), USAGE
-
-
 # They are run in a folder that has these fare files.
 OTHER_FARES = ("-", "-fares", "f\u00e4hrpreise")
 TAKEN_WORDS = (
     ["run", "--", FARES, LONDON], ["run", FARES, "--", LONDON], [*RUN, "--"],
-    ["run", "-", LONDON], ["run", "--", "-fares", LONDON], ["run", "./-fares", LONDON], ["run", "f\u00e4hrpreise", LONDON],
+    ["run", "-", LONDON], ["run", "--", "-fares", LONDON], ["run", "./-fares", LONDON],
+    ["run", "f\u00e4hrpreise", LONDON],
 )
-TAKEN_BY_CHECK = (["check", "-"], ["check", "--", "-"], ["check", "-", "--"], ["check", "--", "-fares"], ["check", "f\u00e4hrpreise"])
+TAKEN_BY_CHECK = (
+    ["check", "-"], ["check", "--", "-"], ["check", "-", "--"], ["check", "--", "-fares"], ["check", "f\u00e4hrpreise"]
+)
 
 
 def write_other_fares(folder):
@@ -359,70 +373,106 @@ def write_other_fares(folder):
         written(folder, name, read("bus.toml"))
 
 
-@test
-def taken_words(folder):
-    """Words that are not refused."""
-    lines, replies = boardings(2)
-    write_other_fares(folder)
-    for given in TAKEN_WORDS:
-        yield f"the words {given}", run(given, lines, cwd=folder), answers(replies)
-    for given in TAKEN_BY_CHECK:
-        yield f"the words {given}", run(given, lines, cwd=folder), answers(b"OK places 6 bands 0 interchanges 1 holidays 1\n")
-    yield "a fare file by its path from here", run(["run", "examples/bus.toml", LONDON], lines, cwd=ROOT), answers(replies)
+class Runs(Theme):
+    """Words of sessions."""
+
+    def test_refused_words(self):
+        """Words that are refused."""
+        lines, _ = boardings(2)
+        for given in REFUSED_WORDS:
+            self.check(f"the words {given}", run(given, lines), USAGE)
+
+    def test_taken_words(self):
+        """Words that are not refused."""
+        lines, replies = boardings(2)
+        write_other_fares(self.folder)
+        for given in TAKEN_WORDS:
+            self.check(f"the words {given}", run(given, lines, cwd=self.folder), answers(replies))
+        for given in TAKEN_BY_CHECK:
+            self.check(
+                f"the words {given}",
+                run(given, lines, cwd=self.folder),
+                answers(b"OK places 6 bands 0 interchanges 1 holidays 1\n"),
+            )
+        self.check(
+            "a fare file by its path from here",
+            run(["run", "examples/bus.toml", LONDON], lines, cwd=ROOT),
+            answers(replies),
+        )
 
 
 # No account, and no day of a statement.
-NO_NUMBERS = ("", " ", "-", "+", "-0", "-1", "--7", "++7", "+-7", "x", "7x", "x7", "7.0", "7e0", "0x7", "7 ", " 7", "1 000", "1_000", "\u0667", "9" * 40)
+NO_NUMBERS = (
+    "", " ", "-", "+", "-0", "-1", "--7", "++7", "+-7", "x", "7x", "x7", "7.0", "7e0", "0x7", "7 ", " 7", "1 000",
+    "1_000", "\u0667", "9" * 40,
+)
 NO_ACCOUNTS = ("0", "00", "+0", "4294967296", "4294967303", "18446744073709551615", "18446744073709551623")
 NO_DAYS = ("0", "3", "03", "+3", "50001", "85266", "4294987026", "18446744073709571346", "Monday", "2024-01-08")
 # The two as they may be spelled, with a row or without.
 TAKEN_NUMBERS = (
-    ("7", "19730", True), ("+7", "19730", True), ("7", "+19730", True), ("007", "019730", True), ("+0007", "+0000019730", True),
+    ("7", "19730", True), ("+7", "19730", True), ("7", "+19730", True), ("007", "019730", True),
+    ("+0007", "+0000019730", True),
     ("0" * 30 + "7", "0" * 40 + "19736", True), ("7", "19729", False), ("7", "19737", False),
-    ("1", "4", False), ("1", "50000", False), ("4294967295", "19730", False), ("4294967295", "50000", False), ("+1", "+4", False),
+    ("1", "4", False), ("1", "50000", False), ("4294967295", "19730", False), ("4294967295", "50000", False),
+    ("+1", "+4", False),
 )
 
 
-@test
-def words_of_statements(folder):
-    """Accounts and days of a statement, in and out of their ranges."""
-    lines, _ = boardings(7)
-    for account in (*NO_NUMBERS, *NO_ACCOUNTS):
-        yield f"a statement of the account {account!r}", run([*STATE[:3], account, "19730"], lines), USAGE
-    for day in (*NO_NUMBERS, *NO_DAYS):
-        yield f"a statement of the day {day!r}", run([*STATE[:4], day], lines), USAGE
-    for account, day, has_row in TAKEN_NUMBERS:
-        wanted = rows_of_statement(*[A_BOARDING] * has_row)
-        yield f"a statement of the account {account} and the day {day}", run([*STATE[:3], account, day], lines), wanted
-    write_other_fares(folder)
-    for given in (
-        ["statement", "--", *STATE[1:]], [*STATE[:2], "--", *STATE[2:]], [*STATE[:3], "--", *STATE[3:]], [*STATE[:4], "--", STATE[4]], [*STATE, "--"],
-        ["statement", "-", *STATE[2:]], ["statement", "--", "-fares", *STATE[2:]],
-    ):
-        yield f"the words {given}", run(given, lines, cwd=folder), rows_of_statement(A_BOARDING)
+class Statements(Theme):
+    """Words of statements."""
+
+    def test_words_of_statements(self):
+        """Accounts and days of a statement, in and out of their ranges."""
+        lines, _ = boardings(7)
+        for account in (*NO_NUMBERS, *NO_ACCOUNTS):
+            self.check(f"a statement of the account {account!r}", run([*STATE[:3], account, "19730"], lines), USAGE)
+        for day in (*NO_NUMBERS, *NO_DAYS):
+            self.check(f"a statement of the day {day!r}", run([*STATE[:4], day], lines), USAGE)
+        for account, day, has_row in TAKEN_NUMBERS:
+            wanted = rows_of_statement(*[A_BOARDING] * has_row)
+            self.check(
+                f"a statement of the account {account} and the day {day}",
+                run([*STATE[:3], account, day], lines),
+                wanted,
+            )
+        write_other_fares(self.folder)
+        for given in (
+            ["statement", "--", *STATE[1:]], [*STATE[:2], "--", *STATE[2:]], [*STATE[:3], "--", *STATE[3:]],
+            [*STATE[:4], "--", STATE[4]], [*STATE, "--"],
+            ["statement", "-", *STATE[2:]], ["statement", "--", "-fares", *STATE[2:]],
+        ):
+            self.check(f"the words {given}", run(given, lines, cwd=self.folder), rows_of_statement(A_BOARDING))
 
 
 # Options of `serve` that are none, lack their value or stand twice, and words that are too few or too many.
 REFUSED_BY_SERVE = (
-    ["serve"], SERVE[:2], SERVE[:3], ["serve", *OPTIONS], ["serve", FARES, *OPTIONS], [*SERVE, "more"], [*SERVE, "--", "more"], ["--", *SERVE],
+    ["serve"], SERVE[:2], SERVE[:3], ["serve", *OPTIONS], ["serve", FARES, *OPTIONS], [*SERVE, "more"],
+    [*SERVE, "--", "more"], ["--", *SERVE],
     ["SERVE", *SERVE[1:]], ["run", FARES, LONDON, *OPTIONS], [*STATE, *OPTIONS], ["check", FARES, "--port", "9000"],
     *([*SERVE[:3], *OPTIONS[:at], *OPTIONS[at + 2:]] for at in range(0, len(OPTIONS), 2)),
     *([*SERVE[:3], *OPTIONS[:at], *OPTIONS[at + 1:]] for at in range(len(OPTIONS))),
     *([*SERVE, *OPTIONS[at:at + 2]] for at in range(0, len(OPTIONS), 2)), [*SERVE, "--port=9000"], [*SERVE, "--lanes"],
-    [*SERVE[:3], "--", *OPTIONS], [*SERVE, "--fly"], [*SERVE, "--fly", "1"], [*SERVE, "-p", "9000"], [*SERVE, "--version"], [*SERVE, "-V"],
-    ["serve", FARES, "-UTC0", *OPTIONS], [*SERVE[:3], "--Port", *OPTIONS[1:]], [*SERVE[:3], "-port", *OPTIONS[1:]], [*SERVE[:3], "--port:9000", *OPTIONS[2:]],
+    [*SERVE[:3], "--", *OPTIONS], [*SERVE, "--fly"], [*SERVE, "--fly", "1"], [*SERVE, "-p", "9000"],
+    [*SERVE, "--version"], [*SERVE, "-V"],
+    ["serve", FARES, "-UTC0", *OPTIONS], [*SERVE[:3], "--Port", *OPTIONS[1:]], [*SERVE[:3], "-port", *OPTIONS[1:]],
+    [*SERVE[:3], "--port:9000", *OPTIONS[2:]],
     [*SERVE, b"\xff"], [*SERVE[:3], "--port", b"9000\xff", *OPTIONS[2:]],
     # A number that is refused, and an option without one, come before a call for help after them.
-    ["serve", "--port", "0", "--help"], ["serve", "--port", "--help"], ["serve", "--lanes", "1", "--lanes", "1", "--help"],
+    ["serve", "--port", "0", "--help"], ["serve", "--port", "--help"],
+    ["serve", "--lanes", "1", "--lanes", "1", "--help"],
 )
 # Numbers of each option outside its range, and in it. Ports are given with one lane.
 NUMBERS = (
-    ("port", ("0", "65536", "74536", "4294967297"), ("1", "65535", "+9000", "009000")), ("lanes", ("0", "16", "257"), ("1", "15", "+01")),
+    ("port", ("0", "65536", "74536", "4294967297"), ("1", "65535", "+9000", "009000")),
+    ("lanes", ("0", "16", "257"), ("1", "15", "+01")),
     ("shards", ("0", "17", "257"), ("1", "16")), ("sessions", ("0", "1001", "4294967297"), ("1", "1000")),
     ("close", ("0", "3", "50001", "4294987026"), ("4", "50000")),
 )
 # A port, a number of lanes, and whether each of these has a port.
-PORTS = (("65535", "1", True), ("65535", "2", False), ("65534", "2", True), ("65521", "15", True), ("65522", "15", False), ("65535", "15", False))
+PORTS = (
+    ("65535", "1", True), ("65535", "2", False), ("65534", "2", True), ("65521", "15", True), ("65522", "15", False),
+    ("65535", "15", False),
+)
 NO_FARES = fault("cannot read fares")
 
 
@@ -433,120 +483,175 @@ def with_numbers(between=" ", **numbers):
     return ["serve", MISSING, LONDON, *(word for option in options for word in option)]
 
 
-@test
-def words_of_serve(_):
-    """Options of lanes: what is none, their ranges, and the ports of lanes."""
-    for given in REFUSED_BY_SERVE:
-        yield f"the words {given}", run(given), USAGE
-    for name, refused, taken in NUMBERS:
-        for between in (" ", "="):
-            for number in (*NO_NUMBERS, *refused):
-                yield f"--{name}{between}{number!r}", run(with_numbers(between, **{"lanes": "1", name: number})), USAGE
-            for number in taken:
-                yield f"--{name}{between}{number!r}", run(with_numbers(between, **{"lanes": "1", name: number})), NO_FARES
-    for port, lanes, is_taken in PORTS:
-        yield f"{lanes} lanes from port {port} on", run(with_numbers(port=port, lanes=lanes)), NO_FARES if is_taken else USAGE
+class Services(Theme):
+    """Words of services."""
 
+    def test_words_of_serve(self):
+        """Options of lanes: what is none, their ranges, and the ports of lanes."""
+        for given in REFUSED_BY_SERVE:
+            self.check(f"the words {given}", run(given), USAGE)
+        for name, refused, taken in NUMBERS:
+            for between in (" ", "="):
+                for number in (*NO_NUMBERS, *refused):
+                    self.check(
+                        f"--{name}{between}{number!r}",
+                        run(with_numbers(between, **{"lanes": "1", name: number})),
+                        USAGE,
+                    )
+                for number in taken:
+                    self.check(
+                        f"--{name}{between}{number!r}",
+                        run(with_numbers(between, **{"lanes": "1", name: number})),
+                        NO_FARES,
+                    )
+        for port, lanes, is_taken in PORTS:
+            self.check(
+                f"{lanes} lanes from port {port} on",
+                run(with_numbers(port=port, lanes=lanes)),
+                NO_FARES if is_taken else USAGE,
+            )
 
-@test
-def order_of_options(_):
-    """Options of lanes before, between and after the words, each with its value after it or after an equals sign."""
-    pairs = [OPTIONS[at:at + 2] for at in range(0, len(OPTIONS), 2)]
-    joined = [f"{name}={number}" for name, number in pairs]
-    backwards = [word for pair in reversed(pairs) for word in pair]
-    for given in (
-        ["serve", MISSING, LONDON, *OPTIONS], ["serve", *OPTIONS, MISSING, LONDON], ["serve", *OPTIONS[:4], MISSING, *OPTIONS[4:], LONDON],
-        ["serve", MISSING, *OPTIONS, LONDON], ["serve", MISSING, LONDON, *backwards], ["serve", *joined, MISSING, LONDON],
-        ["serve", MISSING, *joined[:3], LONDON, *joined[3:]], ["serve", *joined[:2], *OPTIONS[4:], MISSING, LONDON],
-        ["serve", *OPTIONS, "--", MISSING, LONDON], ["serve", MISSING, *OPTIONS, "--", LONDON], ["serve", MISSING, LONDON, *OPTIONS, "--"],
-        ["serve", *OPTIONS, "--", "--port", LONDON], ["serve", "-", LONDON, *OPTIONS],
-    ):
-        yield f"the words {given}", run(given), NO_FARES
+    def test_order_of_options(self):
+        """Options of lanes before, between and after the words, each with its value after it or after an equals
+        sign."""
+        pairs = [OPTIONS[at:at + 2] for at in range(0, len(OPTIONS), 2)]
+        joined = [f"{name}={number}" for name, number in pairs]
+        backwards = [word for pair in reversed(pairs) for word in pair]
+        for given in (
+            ["serve", MISSING, LONDON, *OPTIONS], ["serve", *OPTIONS, MISSING, LONDON],
+            ["serve", *OPTIONS[:4], MISSING, *OPTIONS[4:], LONDON],
+            ["serve", MISSING, *OPTIONS, LONDON], ["serve", MISSING, LONDON, *backwards],
+            ["serve", *joined, MISSING, LONDON],
+            ["serve", MISSING, *joined[:3], LONDON, *joined[3:]], ["serve", *joined[:2], *OPTIONS[4:], MISSING, LONDON],
+            ["serve", *OPTIONS, "--", MISSING, LONDON], ["serve", MISSING, *OPTIONS, "--", LONDON],
+            ["serve", MISSING, LONDON, *OPTIONS, "--"],
+            ["serve", *OPTIONS, "--", "--port", LONDON], ["serve", "-", LONDON, *OPTIONS],
+        ):
+            self.check(f"the words {given}", run(given), NO_FARES)
 
 
 # The same of the options that name files, and of the words of `replay`. The fare file is missing.
-TO_RUN, TO_STATE, TO_REPLAY = ["run", MISSING, LONDON], ["statement", MISSING, LONDON, "7", "19730"], ["replay", MISSING, LONDON]
+TO_RUN = ["run", MISSING, LONDON]
+TO_STATE = ["statement", MISSING, LONDON, "7", "19730"]
+TO_REPLAY = ["replay", MISSING, LONDON]
 TO_SERVE = ["serve", MISSING, LONDON, *OPTIONS]
 REFUSED_FILES = (
-    [*TO_RUN, "--sync"], [*TO_RUN, "--journal"], [*TO_RUN, "--journal", "--sync"], [*TO_RUN, "--ledger"], [*TO_RUN, "--ledger", "a", "--sync"],
-    [*TO_RUN, "--ledger", "a", "--ledger", "b"], [*TO_RUN, "--ledger", "-a"], [*TO_RUN, "--ledger", "--journal", "a"], [*TO_RUN, "--Ledger", "a"],
-    [*TO_RUN, "--ledgers", "a"], [*TO_RUN, "-l", "a"], [*TO_RUN, "--ledger", b"\xff"], ["run", "--ledger", MISSING, LONDON],
+    [*TO_RUN, "--sync"], [*TO_RUN, "--journal"], [*TO_RUN, "--journal", "--sync"], [*TO_RUN, "--ledger"],
+    [*TO_RUN, "--ledger", "a", "--sync"],
+    [*TO_RUN, "--ledger", "a", "--ledger", "b"], [*TO_RUN, "--ledger", "-a"], [*TO_RUN, "--ledger", "--journal", "a"],
+    [*TO_RUN, "--Ledger", "a"],
+    [*TO_RUN, "--ledgers", "a"], [*TO_RUN, "-l", "a"], [*TO_RUN, "--ledger", b"\xff"],
+    ["run", "--ledger", MISSING, LONDON],
     [*TO_STATE, "--ledger", "a"], ["check", MISSING, "--ledger", "a"],
     [*TO_RUN, "--journal", "a", "--journal", "b"], [*TO_RUN, "--journal", "a", "--journal=a"],
-    [*TO_RUN, "--journal", "a", "--sync", "--sync"], [*TO_RUN, "--journal", "a", "--sync=true"], [*TO_RUN, "--journal", "a", "--sync", "true"],
-    [*TO_RUN, "--journal", "-a"], [*TO_RUN, "--journal", "a", "b"], [*TO_RUN, "--Journal", "a"], [*TO_RUN, "-j", "a"], [*TO_RUN, "--journals", "a"],
-    [*TO_RUN, "--", "--journal", "a"], ["run", "--journal", MISSING, LONDON], [*TO_RUN, "--port", "9000"], [*TO_RUN, "--journal", b"\xff"],
+    [*TO_RUN, "--journal", "a", "--sync", "--sync"], [*TO_RUN, "--journal", "a", "--sync=true"],
+    [*TO_RUN, "--journal", "a", "--sync", "true"],
+    [*TO_RUN, "--journal", "-a"], [*TO_RUN, "--journal", "a", "b"], [*TO_RUN, "--Journal", "a"], [*TO_RUN, "-j", "a"],
+    [*TO_RUN, "--journals", "a"],
+    [*TO_RUN, "--", "--journal", "a"], ["run", "--journal", MISSING, LONDON], [*TO_RUN, "--port", "9000"],
+    [*TO_RUN, "--journal", b"\xff"],
     [*TO_STATE, "--sync"], [*TO_STATE, "--journal", "a", "--sync"], [*TO_STATE, "--journal"],
     [*TO_STATE, "--journal", "a", "--journal", "a"], ["check", MISSING, "--journal", "a"],
-    ["replay"], TO_REPLAY[:2], TO_REPLAY, [*TO_REPLAY, "--journal", "a"], [*TO_REPLAY, "a", "--sync"], [*TO_REPLAY, "-a"], [*TO_REPLAY, "a", b"\xff"],
+    ["replay"], TO_REPLAY[:2], TO_REPLAY, [*TO_REPLAY, "--journal", "a"], [*TO_REPLAY, "a", "--sync"],
+    [*TO_REPLAY, "-a"], [*TO_REPLAY, "a", b"\xff"],
     ["--", *TO_REPLAY, "a"], ["REPLAY", *TO_REPLAY[1:], "a"], [*TO_REPLAY, "--"], [*TO_REPLAY, "a", "--ledger", "a"],
-    [*TO_SERVE, "--sync"], [*TO_SERVE, "--journal", "a", "--sync"], [*TO_SERVE, "--journal"], [*TO_SERVE, "--ledger"], [*TO_SERVE, "--journal", "-a"],
-    [*TO_SERVE, "--journal", "a", "--journal", "a"], [*TO_SERVE, "--ledger=a", "--ledger", "a"], [*TO_SERVE, "--journal", "--ledger", "a"],
+    [*TO_SERVE, "--sync"], [*TO_SERVE, "--journal", "a", "--sync"], [*TO_SERVE, "--journal"], [*TO_SERVE, "--ledger"],
+    [*TO_SERVE, "--journal", "-a"],
+    [*TO_SERVE, "--journal", "a", "--journal", "a"], [*TO_SERVE, "--ledger=a", "--ledger", "a"],
+    [*TO_SERVE, "--journal", "--ledger", "a"],
     ["serve", MISSING, LONDON, *OPTIONS[2:], "--journal", "a"],
 )
 TAKEN_FILES = (
-    [*TO_RUN, "--journal", "a"], [*TO_RUN, "--journal=a"], [*TO_RUN, "--journal", "a", "--sync"], [*TO_RUN, "--sync", "--journal", "a"],
+    [*TO_RUN, "--journal", "a"], [*TO_RUN, "--journal=a"], [*TO_RUN, "--journal", "a", "--sync"],
+    [*TO_RUN, "--sync", "--journal", "a"],
     ["run", "--journal", "a", MISSING, "--sync", LONDON],
-    ["run", "--sync", "--journal=-a", "--", MISSING, LONDON], [*TO_RUN, "--journal", "-"], [*TO_RUN, "--journal="], [*TO_RUN, "--journal", ""],
-    [*TO_RUN, "--ledger", "a"], [*TO_RUN, "--ledger=-a"], [*TO_RUN, "--ledger="], [*TO_RUN, "--ledger", "a", "--journal", "b", "--sync"],
+    ["run", "--sync", "--journal=-a", "--", MISSING, LONDON], [*TO_RUN, "--journal", "-"], [*TO_RUN, "--journal="],
+    [*TO_RUN, "--journal", ""],
+    [*TO_RUN, "--ledger", "a"], [*TO_RUN, "--ledger=-a"], [*TO_RUN, "--ledger="],
+    [*TO_RUN, "--ledger", "a", "--journal", "b", "--sync"],
     ["run", "--sync", MISSING, "--ledger", "b", LONDON, "--journal=a"], [*TO_RUN, "--ledger", "a", "--journal", "a"],
-    [*TO_SERVE, "--journal", "a"], [*TO_SERVE, "--ledger", "a"], ["serve", "--ledger=b", *OPTIONS[:4], MISSING, "--journal", "a", *OPTIONS[4:], LONDON],
-    ["serve", *OPTIONS, "--journal=-a", "--ledger=-b", "--", MISSING, LONDON], [*TO_SERVE, "--journal=", "--ledger", ""],
-    [*TO_STATE, "--journal", "a"], ["statement", "--journal=a", *TO_STATE[1:]], [*TO_STATE[:3], "--journal", "a", *TO_STATE[3:]],
-    [*TO_REPLAY, "a"], [*TO_REPLAY, "a", "b", "a"], [*TO_REPLAY, "--", "-a", "--sync"], ["replay", "--", *TO_REPLAY[1:], "a"], [*TO_REPLAY, "-"], [*TO_REPLAY, ""],
+    [*TO_SERVE, "--journal", "a"], [*TO_SERVE, "--ledger", "a"],
+    ["serve", "--ledger=b", *OPTIONS[:4], MISSING, "--journal", "a", *OPTIONS[4:], LONDON],
+    ["serve", *OPTIONS, "--journal=-a", "--ledger=-b", "--", MISSING, LONDON],
+    [*TO_SERVE, "--journal=", "--ledger", ""],
+    [*TO_STATE, "--journal", "a"], ["statement", "--journal=a", *TO_STATE[1:]],
+    [*TO_STATE[:3], "--journal", "a", *TO_STATE[3:]],
+    [*TO_REPLAY, "a"], [*TO_REPLAY, "a", "b", "a"], [*TO_REPLAY, "--", "-a", "--sync"],
+    ["replay", "--", *TO_REPLAY[1:], "a"], [*TO_REPLAY, "-"], [*TO_REPLAY, ""],
 )
 
 
-@test
-def words_of_files(folder):
-    """Options that name files, and files of a replay: what is none, and in what order they may stand."""
-    for given in REFUSED_FILES:
-        yield f"the words {given}", run(given, cwd=folder), USAGE
-    for given in TAKEN_FILES:
-        yield f"the words {given}", run(given, cwd=folder), NO_FARES
-    yield "no file was made", End(0, b" ".join(name.encode() for name in os.listdir(folder))), answers(b"")
+class Files(Theme):
+    """Words of journals and ledgers."""
+
+    def test_words_of_files(self):
+        """Options that name files, and files of a replay: what is none, and in what order they may stand."""
+        for given in REFUSED_FILES:
+            self.check(f"the words {given}", run(given, cwd=self.folder), USAGE)
+        for given in TAKEN_FILES:
+            self.check(f"the words {given}", run(given, cwd=self.folder), NO_FARES)
+        self.check(
+            "no file was made", End(0, b" ".join(name.encode() for name in os.listdir(self.folder))), answers(b"")
+        )
 
 
 # The same of the options of `check`. The fare file is missing, and so is the other.
 TO_CHECK = ["check", MISSING]
 REFUSED_BY_CHECK = (
-    ["check", "--lint"], [*TO_CHECK, "--lint", "--lint"], [*TO_CHECK, "--lint=true"], [*TO_CHECK, "--lint="], [*TO_CHECK, "--lint", "true"],
-    [*TO_CHECK, "--Lint"], [*TO_CHECK, "--lints"], [*TO_CHECK, "-l"], [*TO_CHECK, "--", "--lint"], [*TO_CHECK, "--lint", "--version"],
-    ["check", "--against", MISSING], [*TO_CHECK, "--against"], [*TO_CHECK, "--against", "--lint"], [*TO_CHECK, "--against", "-a"],
-    [*TO_CHECK, "--against", "a", "b"], [*TO_CHECK, "--against", "a", "--against", "a"], [*TO_CHECK, "--against=a", "--against", "b"],
-    [*TO_CHECK, "--Against", "a"], [*TO_CHECK, "-a", "a"], [*TO_CHECK, "--against", b"\xff"], [*TO_CHECK, "--", "--against", "a"],
+    ["check", "--lint"], [*TO_CHECK, "--lint", "--lint"], [*TO_CHECK, "--lint=true"], [*TO_CHECK, "--lint="],
+    [*TO_CHECK, "--lint", "true"],
+    [*TO_CHECK, "--Lint"], [*TO_CHECK, "--lints"], [*TO_CHECK, "-l"], [*TO_CHECK, "--", "--lint"],
+    [*TO_CHECK, "--lint", "--version"],
+    ["check", "--against", MISSING], [*TO_CHECK, "--against"], [*TO_CHECK, "--against", "--lint"],
+    [*TO_CHECK, "--against", "-a"],
+    [*TO_CHECK, "--against", "a", "b"], [*TO_CHECK, "--against", "a", "--against", "a"],
+    [*TO_CHECK, "--against=a", "--against", "b"],
+    [*TO_CHECK, "--Against", "a"], [*TO_CHECK, "-a", "a"], [*TO_CHECK, "--against", b"\xff"],
+    [*TO_CHECK, "--", "--against", "a"],
     # A day with no other fare file, or without its number, or twice.
-    [*TO_CHECK, "--after", "19731"], [*TO_CHECK, "--after=19731"], ["check", "--after", "19731", MISSING], [*TO_CHECK, "--lint", "--after", "19731"],
-    [*TO_CHECK, "--against", "a", "--after"], [*TO_CHECK, "--after", "--against", "a"], [*TO_CHECK, "--against", "--after", "19731"],
-    [*TO_CHECK, "--against", "a", "--after", "4", "--after", "4"], [*TO_CHECK, "--against", "a", "--after=4", "--after", "5"],
+    [*TO_CHECK, "--after", "19731"], [*TO_CHECK, "--after=19731"], ["check", "--after", "19731", MISSING],
+    [*TO_CHECK, "--lint", "--after", "19731"],
+    [*TO_CHECK, "--against", "a", "--after"], [*TO_CHECK, "--after", "--against", "a"],
+    [*TO_CHECK, "--against", "--after", "19731"],
+    [*TO_CHECK, "--against", "a", "--after", "4", "--after", "4"],
+    [*TO_CHECK, "--against", "a", "--after=4", "--after", "5"],
     # No option of `check`, and those of `check` for others.
-    [*TO_CHECK, "--sync"], [*TO_CHECK, "--close", "19731"], [*TO_RUN, "--lint"], [*TO_RUN, "--against", "a"], [*TO_STATE, "--lint"],
-    [*TO_STATE, "--after", "19731"], [*TO_REPLAY, "a", "--lint"], [*TO_SERVE, "--against", "a"], [*TO_SERVE, "--after", "19731"],
+    [*TO_CHECK, "--sync"], [*TO_CHECK, "--close", "19731"], [*TO_RUN, "--lint"], [*TO_RUN, "--against", "a"],
+    [*TO_STATE, "--lint"],
+    [*TO_STATE, "--after", "19731"], [*TO_REPLAY, "a", "--lint"], [*TO_SERVE, "--against", "a"],
+    [*TO_SERVE, "--after", "19731"],
     # What is refused comes before a call for help after it.
-    ["check", "--lint", "--lint", "--help"], ["check", "--after", "3", "--help"], ["check", "--after", "--help"], ["check", "--against", "-h"],
+    ["check", "--lint", "--lint", "--help"], ["check", "--after", "3", "--help"], ["check", "--after", "--help"],
+    ["check", "--against", "-h"],
 )
 TAKEN_OPTIONS_OF_CHECK = (
-    [*TO_CHECK, "--lint"], ["check", "--lint", MISSING], ["check", "--lint", "--", MISSING], [*TO_CHECK, "--lint", "--"],
-    [*TO_CHECK, "--against", "a"], ["check", "--against", "a", MISSING], [*TO_CHECK, "--against=a"], [*TO_CHECK, "--against=-a"],
-    [*TO_CHECK, "--against", "-"], [*TO_CHECK, "--against="], [*TO_CHECK, "--against", ""], [*TO_CHECK, "--against", MISSING],
+    [*TO_CHECK, "--lint"], ["check", "--lint", MISSING], ["check", "--lint", "--", MISSING],
+    [*TO_CHECK, "--lint", "--"],
+    [*TO_CHECK, "--against", "a"], ["check", "--against", "a", MISSING], [*TO_CHECK, "--against=a"],
+    [*TO_CHECK, "--against=-a"],
+    [*TO_CHECK, "--against", "-"], [*TO_CHECK, "--against="], [*TO_CHECK, "--against", ""],
+    [*TO_CHECK, "--against", MISSING],
     [*TO_CHECK, "--lint", "--against", "a"], [*TO_CHECK, "--against", "a", "--lint"],
     [*TO_CHECK, "--against", "a", "--after", "19731"], [*TO_CHECK, "--after", "19731", "--against", "a"],
-    ["check", "--after=19731", MISSING, "--against=a"], ["check", "--after", "19731", "--lint", MISSING, "--against", "a"],
+    ["check", "--after=19731", MISSING, "--against=a"],
+    ["check", "--after", "19731", "--lint", MISSING, "--against", "a"],
     ["check", "--against", "a", "--after=19731", "--lint", "--", MISSING],
 )
 # Days that are outside their range, and in it.
 REFUSED_DAYS, TAKEN_DAYS = ("0", "3", "03", "+3", "50001", "4294987026"), ("4", "50000", "+4", "0050000")
 
 
-@test
-def words_of_check(folder):
-    """Options of a check: what is none, in what order they may stand, and the days of the one that has a number."""
-    for given in REFUSED_BY_CHECK:
-        yield f"the words {given}", run(given, cwd=folder), USAGE
-    for given in TAKEN_OPTIONS_OF_CHECK:
-        yield f"the words {given}", run(given, cwd=folder), NO_FARES
-    for between in (["--after", "{}"], ["--after={}"]):
-        for is_taken, days in ((False, (*NO_NUMBERS, *REFUSED_DAYS)), (True, TAKEN_DAYS)):
-            for day in days:
-                given = [*TO_CHECK, "--against", "a", *(word.format(day) for word in between)]
-                yield f"the words {given}", run(given, cwd=folder), NO_FARES if is_taken else USAGE
+class Checks(Theme):
+    """Words of checks."""
+
+    def test_words_of_check(self):
+        """Options of a check: what is none, in what order they may stand, and the days of the one that has a number."""
+        for given in REFUSED_BY_CHECK:
+            self.check(f"the words {given}", run(given, cwd=self.folder), USAGE)
+        for given in TAKEN_OPTIONS_OF_CHECK:
+            self.check(f"the words {given}", run(given, cwd=self.folder), NO_FARES)
+        for between in (["--after", "{}"], ["--after={}"]):
+            for is_taken, days in ((False, (*NO_NUMBERS, *REFUSED_DAYS)), (True, TAKEN_DAYS)):
+                for day in days:
+                    given = [*TO_CHECK, "--against", "a", *(word.format(day) for word in between)]
+                    self.check(f"the words {given}", run(given, cwd=self.folder), NO_FARES if is_taken else USAGE)
