@@ -1,4 +1,5 @@
-"""The taps, corrections and questions that are measured, in the order of their arrival. They are the same for the same seed."""
+"""The taps, corrections and questions that are measured, in the order of their arrival. They are the same for the same
+seed."""
 
 import random
 from typing import Callable, NamedTuple
@@ -10,7 +11,8 @@ MONDAY, BEGINS, DAYS = 19730, 1704688200, 7
 LAST = BEGINS + DAYS * A_DAY - 1
 HOUR = 3_600
 
-# The fare files by name. In the last one the stations are in three of nine zones, and bands that cover the same cap differently.
+# The fare files by name. In the last one the stations are in three of nine zones, and bands that cover the same cap
+# differently.
 SPANS = [(low, high) for low in range(1, 10) for high in range(low, 10)]
 NINE_BANDS = [
     Band(2, 2, 520, 2_300),
@@ -30,7 +32,8 @@ TWELVE_BANDS = SAMPLE._replace(
 )
 FARES = {"bus.toml": BUS, "sample.toml": SAMPLE, "twelve-bands.toml": TWELVE_BANDS}
 
-# The first and last seconds of days and of peak times, after 04:30; and the longest times that a rule allows, and one more.
+# The first and last seconds of days and of peak times, after 04:30; and the longest times that a rule allows, and one
+# more.
 EDGE_STARTS = (0, 7_199, 7_200, 17_999, 18_000, 41_399, 41_400, 52_199, 52_200, A_DAY - 1)
 EDGE_TIMES = [most + more for most in (120, 1_800, 3_600, 5_400, 6_000, 6_600) for more in (0, 1)]
 EDGE_CHANGES = (1_200, 1_201)
@@ -48,7 +51,10 @@ def day_taps(draw, accounts):
     """Bus taps at random instants of the Monday, in shuffled order."""
     made = []
     for account in range(1, accounts + 1):
-        made += [Tap(draw.randint(BEGINS, BEGINS + A_DAY - 1), *number, account, ROUTE, "BUS") for number in numbers(draw, DAY.taps_each)]
+        made += [
+            Tap(draw.randint(BEGINS, BEGINS + A_DAY - 1), *number, account, ROUTE, "BUS")
+            for number in numbers(draw, DAY.taps_each)
+        ]
     draw.shuffle(made)
     return made
 
@@ -63,7 +69,10 @@ def trip(draw):
     kinds = {
         ((0, first, "IN"), (later, last, "OUT")): 35,
         (*there, (on, again, "IN"), (on + later, last, "OUT")): 10,
-        (*there, (on, again, "IN"), (on + 600, out, "OUT"), (on + 600 + change, again, "IN"), (on + 1_200 + change, last, "OUT")): 5,
+        (
+            *there, (on, again, "IN"), (on + 600, out, "OUT"), (on + 600 + change, again, "IN"),
+            (on + 1_200 + change, last, "OUT"),
+        ): 5,
         ((0, first, "IN"), (later, first, "OUT")): 5,
         ((0, first, "IN"),): 3,
         ((0, first, "OUT"),): 2,
@@ -80,7 +89,9 @@ def trip_taps(draw, account, count):
         start = draw.choice(EDGE_STARTS) if draw.random() < 0.1 else draw.randrange(A_DAY)
         start += BEGINS + A_DAY * draw.randrange(DAYS)
         touches += [(min(start + after, LAST), place, kind) for after, place, kind in trip(draw)]
-    return [Tap(utc, *number, account, place, kind) for number, (utc, place, kind) in zip(numbers(draw, count), touches)]
+    return [
+        Tap(utc, *number, account, place, kind) for number, (utc, place, kind) in zip(numbers(draw, count), touches)
+    ]
 
 
 def arriving(draw, taps):
@@ -91,7 +102,9 @@ def arriving(draw, taps):
 
 def week_taps(draw, accounts):
     """Bus and rail taps of the week, as they arrive."""
-    return arriving(draw, [tap for account in range(1, accounts + 1) for tap in trip_taps(draw, account, WEEK.taps_each)])
+    return arriving(
+        draw, [tap for account in range(1, accounts + 1) for tap in trip_taps(draw, account, WEEK.taps_each)]
+    )
 
 
 def lone_taps(taps):
@@ -169,10 +182,18 @@ class Load(NamedTuple):
 
 
 DAY = Load("day", "a day of bus taps in shuffled order", "bus.toml", 4, day_taps, range(0))
-WEEK = Load("week", "a week of bus and rail taps, a tenth of them late by hours", "bus.toml", 20, week_taps, range(MONDAY, MONDAY + DAYS))
+WEEK = Load(
+    "week", "a week of bus and rail taps, a tenth of them late by hours", "bus.toml", 20, week_taps,
+    range(MONDAY, MONDAY + DAYS),
+)
 CAPPED_DAY = DAY._replace(name="capped-day", fares="sample.toml")
 CAPPED_WEEK = WEEK._replace(name="capped-week", fares="sample.toml")
 BANDED_WEEK = WEEK._replace(name="banded-week", fares="twelve-bands.toml")
-CORRECTED_WEEK = CAPPED_WEEK._replace(name="corrected-week", title=f"{WEEK.title}, with corrections among them", arrivals=corrected_week)
-QUOTED_WEEK = CAPPED_WEEK._replace(name="quoted-week", title=f"{WEEK.title}, and then two quotes of each account", arrivals=quoted_week, days_shown=range(0))
+CORRECTED_WEEK = CAPPED_WEEK._replace(
+    name="corrected-week", title=f"{WEEK.title}, with corrections among them", arrivals=corrected_week
+)
+QUOTED_WEEK = CAPPED_WEEK._replace(
+    name="quoted-week", title=f"{WEEK.title}, and then two quotes of each account", arrivals=quoted_week,
+    days_shown=range(0),
+)
 LOADS = {load.name: load for load in (DAY, WEEK, CAPPED_DAY, CAPPED_WEEK, BANDED_WEEK, CORRECTED_WEEK, QUOTED_WEEK)}

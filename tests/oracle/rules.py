@@ -1,11 +1,13 @@
-"""The replies and statements that docs/RULES.md gives, priced from scratch by a table of fares. The clock is London's in winter, which is UTC."""
+"""The replies and statements that docs/RULES.md gives, priced from scratch by a table of fares. The clock is London's
+in winter, which is UTC."""
 
 import itertools
 from typing import NamedTuple
 
 
 class Band(NamedTuple):
-    """What its journeys cost at most, in a day and in a week: those by bus, and by rail within its zones. It has none if `low` is 0."""
+    """What its journeys cost at most, in a day and in a week: those by bus, and by rail within its zones. It has none
+    if `low` is 0."""
 
     low: int
     high: int
@@ -38,7 +40,8 @@ class Fares(NamedTuple):
     hopper: int = 3_600
     same_free: int = 120
     same_limit: int = 1_800
-    # The first day of each edition, and what holds from there on. Stations, routes, holidays and interchanges are the file's own.
+    # The first day of each edition, and what holds from there on. Stations, routes, holidays and interchanges are the
+    # file's own.
     editions: dict = {}
 
 
@@ -46,7 +49,10 @@ ROUTE = 50
 # The numbers of examples/bus.toml, and of examples/sample.toml.
 BUS = Fares(
     minutes=[90, 100, 110],
-    single={(1, 1): (280, 270), (1, 2): (340, 280), (1, 3): (370, 300), (2, 2): (200, 190), (2, 3): (210, 195), (3, 3): (200, 180)},
+    single={
+        (1, 1): (280, 270), (1, 2): (340, 280), (1, 3): (370, 300), (2, 2): (200, 190), (2, 3): (210, 195),
+        (3, 3): (200, 180),
+    },
     bands=[],
     holidays=[19723],
     stations={10: (1, 1), 11: (1, 2), 12: (2, 2), 13: (2, 3), 14: (3, 3)},
@@ -93,7 +99,8 @@ class Fix(NamedTuple):
     seq: int
     account: int
     form: str
-    # Of a VOID a tap's number, of a FILL an instant, a place and a kind, of a CREDIT a day and pence, of a DROP a correction's number.
+    # Of a VOID a tap's number, of a FILL an instant, a place and a kind, of a CREDIT a day and pence, of a DROP a
+    # correction's number.
     words: tuple
 
     @property
@@ -115,7 +122,8 @@ class Close(NamedTuple):
 
 
 class Posting(NamedTuple):
-    """What was due of an account's week when it was posted, and what was charged for it; both in all and of it to each operator."""
+    """What was due of an account's week when it was posted, and what was charged for it; both in all and of it to each
+    operator."""
 
     account: int
     week: int
@@ -199,7 +207,8 @@ def is_within(utc, window):
 
 
 def is_peak(fares, taps):
-    """Whether a journey of these rail taps is peak: by its first tap, but for one that goes into zone 1 in the evening."""
+    """Whether a journey of these rail taps is peak: by its first tap, but for one that goes into zone 1 in the
+    evening."""
     utc, day = taps[0].utc, service_day(taps[0].utc)
     if day - monday(day) >= 5 or day in fares.holidays:
         return False
@@ -213,7 +222,9 @@ def parts(fares, taps):
     made = []
     for tap in taps:
         before = made[-1][-1] if made else None
-        if before and (before.kind, tap.kind) == ("IN", "OUT") and tap.utc - before.utc <= limit(on(fares, service_day(before.utc)), before.place, tap.place):
+        if before and (before.kind, tap.kind) == ("IN", "OUT") and tap.utc - before.utc <= limit(
+            on(fares, service_day(before.utc)), before.place, tap.place
+        ):
             made[-1] = [before, tap]
         else:
             made.append([tap])
@@ -249,7 +260,10 @@ def rail_journey(fares, run):
     peak, off = fares.single[zones]
     fare = peak if is_peak(fares, taps) else off
     if len(taps) == 2 and first.place == last.place:
-        return Journey(first.utc, "SAME", first.place, last.place, 0 if last.utc - first.utc <= fares.same_free else fare, origins, zones)
+        return Journey(
+            first.utc, "SAME", first.place, last.place, 0 if last.utc - first.utc <= fares.same_free else fare, origins,
+            zones,
+        )
     return Journey(first.utc, "RAIL", first.place, last.place, fare, origins, zones)
 
 
@@ -259,7 +273,9 @@ def boardings(fares, taps):
     for tap in taps:
         pays = paid is None or tap.utc - paid > fares.hopper
         paid = tap.utc if pays else paid
-        yield tap, Journey(tap.utc, "BUS", tap.place, 0, on(fares, service_day(tap.utc)).bus if pays else 0, (tap.place,))
+        yield tap, Journey(
+            tap.utc, "BUS", tap.place, 0, on(fares, service_day(tap.utc)).bus if pays else 0, (tap.place,)
+        )
 
 
 def journeys(fares, taps):
@@ -282,7 +298,8 @@ def sums(journeys):
 
 
 def covers(band, span):
-    """Whether a band covers the journeys of this span, or those by bus. Of lone taps, which none covers, it is not asked."""
+    """Whether a band covers the journeys of this span, or those by bus. Of lone taps, which none covers, it is not
+    asked."""
     return span == BY_BUS or band.low <= span[0] and span[1] <= band.high
 
 
@@ -321,7 +338,9 @@ def week_price(fares, days):
         lone += alone
     prices = [sum(capped(bands[day], its) for day, its in pence.items())]
     for band in bands[min(days)]:
-        prices.append(band.week + sum(capped(bands[day], outside(band, its)) for day, its in pence.items() if outside(band, its)))
+        prices.append(
+            band.week + sum(capped(bands[day], outside(band, its)) for day, its in pence.items() if outside(band, its))
+        )
     return min(prices) + lone
 
 
@@ -335,7 +354,11 @@ def effective(account):
     """The taps that are priced: the accepted ones that no standing Void names, and those of standing Fills."""
     fixes = standing(account)
     voided = {fix.words for fix in fixes if fix.form == "VOID"}
-    touches = [Touch(tap.utc, False, tap.number, tap.place, tap.kind) for tap in account.taps.values() if tap.number not in voided]
+    touches = [
+        Touch(tap.utc, False, tap.number, tap.place, tap.kind)
+        for tap in account.taps.values()
+        if tap.number not in voided
+    ]
     for fix in fixes:
         if fix.form == "FILL":
             utc, place, kind = fix.words
@@ -436,13 +459,17 @@ def quoted(fares, accounts, asked):
 
 
 def is_quoted(account, through):
-    """Whether an account has an accepted tap or Fill on a day of the week of a day so far, voided or withdrawn or not."""
-    instants = [tap.utc for tap in account.taps.values()] + [fix.words[0] for fix in account.fixes.values() if fix.form == "FILL"]
+    """Whether an account has an accepted tap or Fill on a day of the week of a day so far, voided or withdrawn or
+    not."""
+    instants = [tap.utc for tap in account.taps.values()] + [
+        fix.words[0] for fix in account.fixes.values() if fix.form == "FILL"
+    ]
     return any(monday(through) <= service_day(utc) <= through for utc in instants)
 
 
 def posting(fares, number, account, through, before):
-    """What is due of an account's week through a day as a posting after those of that account and week; or why it is refused."""
+    """What is due of an account's week through a day as a posting after those of that account and week; or why it is
+    refused."""
     week, version = monday(through), len(account.taps) + len(account.fixes)
     due, shares = owed(fares, account, through)
     edition = first_day(fares, week)
@@ -458,7 +485,8 @@ def posting(fares, number, account, through, before):
 
 
 def closed(fares, accounts, ledger, day):
-    """The reply to CLOSE. What is posted is kept in `ledger`, in lists by account and week, unless one of the accounts is refused."""
+    """The reply to CLOSE. What is posted is kept in `ledger`, in lists by account and week, unless one of the accounts
+    is refused."""
     given = []
     for number, account in sorted(accounts.items()):
         if is_quoted(account, day):
@@ -477,7 +505,8 @@ def closed(fares, accounts, ledger, day):
 
 
 def reply(fares, accounts, command, ledger=None):
-    """The reply to a tap or a correction, which is kept in `accounts` if it is accepted, or to DUE; or to CLOSE, which is posted in `ledger`."""
+    """The reply to a tap or a correction, which is kept in `accounts` if it is accepted, or to DUE; or to CLOSE, which
+    is posted in `ledger`."""
     if isinstance(command, Due):
         return quoted(fares, accounts, command)
     if isinstance(command, Close):
@@ -544,7 +573,10 @@ def array(items):
 
 def edition_keys(fares):
     """The keys that an edition says anew, but for its rules."""
-    singles = (f"{{ from = {low}, to = {high}, peak = {peak}, off = {off} }}" for (low, high), (peak, off) in fares.single.items())
+    singles = (
+        f"{{ from = {low}, to = {high}, peak = {peak}, off = {off} }}"
+        for (low, high), (peak, off) in fares.single.items()
+    )
     bands = (f"{{ from = {it.low}, to = {it.high}, day = {it.day}, week = {it.week} }}" for it in fares.bands)
     return f"""\
 minutes = {fares.minutes}
@@ -566,11 +598,17 @@ same_limit = {fares.same_limit}
 
 def fare_file(fares):
     """The text of a fare file that says this."""
-    stations = (f"{{ place = {place}, low = {low}, high = {high}, operator = {fares.operators[place]} }}" for place, (low, high) in fares.stations.items())
+    stations = (
+        f"{{ place = {place}, low = {low}, high = {high}, operator = {fares.operators[place]} }}"
+        for place, (low, high) in fares.stations.items()
+    )
     routes = (f"{{ place = {place}, operator = {fares.operators[place]} }}" for place in fares.routes)
-    interchanges = (f"{{ a = {min(pair)}, b = {max(pair)}, seconds = {seconds} }}" for pair, seconds in fares.interchanges.items())
+    interchanges = (
+        f"{{ a = {min(pair)}, b = {max(pair)}, seconds = {seconds} }}" for pair, seconds in fares.interchanges.items()
+    )
     editions = "".join(
-        f"\n[[edition]]\nday = {day}\n{edition_keys(it)}\n{rules_table(it, 'edition.rules')}" for day, it in fares.editions.items()
+        f"\n[[edition]]\nday = {day}\n{edition_keys(it)}\n{rules_table(it, 'edition.rules')}"
+        for day, it in fares.editions.items()
     )
     return f"""\
 zones = {len(fares.minutes)}

@@ -1,2 +1,2 @@
-"""What the themes of tests/program, and the other scripts of this folder, share. A theme imports this and the oracle,
-and no other theme."""
+"""What the themes of tests/program.py, and the other scripts of this folder, share. A theme imports this and the
+oracle, and no other theme."""

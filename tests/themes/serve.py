@@ -402,8 +402,8 @@ def first_listening(library):
     return low
 
 
-# How many allocations are passed over after one whose like `run` makes too, as tests/allocations has it refused: before
-# the service listens, and in its close.
+# How many allocations are passed over after one whose like `run` makes too, as tests/allocations.py has it refused:
+# before the service listens, and in its close.
 PASSED = 10
 # For how many allocations memory is refused where it is for a while. Were it for good, a shard without room in its
 # journal would answer nothing, and each reply be late.

@@ -1,5 +1,6 @@
 #!/usr/bin/env python3
-"""Times taps, corrections and quotes through farebox, beside a plain loop that only reads the lines and answers. See README.md."""
+"""Times taps, corrections and quotes through farebox, beside a plain loop that only reads the lines and answers. See
+README.md."""
 
 import argparse
 import contextlib
@@ -105,7 +106,8 @@ def build_plain():
 
 
 def check_answers(program, fares, commands, replies, accounts, days):
-    """Compares the replies to all commands, and after them to SHOW for each account and each of the days, with those of the rules."""
+    """Compares the replies to all commands, and after them to SHOW for each account and each of the days, with those of
+    the rules."""
     shows = [(account, day) for account in accounts for day in days]
     wanted = replies + [line for show in shows for line in rules.shown(fares, accounts, *show)]
     lines = f"{OUT}/checked.txt"
@@ -117,7 +119,10 @@ def check_answers(program, fares, commands, replies, accounts, days):
                 sys.exit(f"bench: line {at} of bench/out/replies is {given!r}, and by the rules it is {want!r}")
     print(f"replies: all {len(replies):,} are those that the rules give")
     if shows:
-        print(f"shown after them: all {len(wanted) - len(replies) - len(shows):,} journeys in {len(shows):,} replies to SHOW are those that the rules give")
+        print(
+            f"shown after them: all {len(wanted) - len(replies) - len(shows):,} journeys in "
+            f"{len(shows):,} replies to SHOW are those that the rules give"
+        )
 
 
 def time_rounds(loads, rounds):
@@ -127,18 +132,26 @@ def time_rounds(loads, rounds):
         for sink in SINKS:
             for load, prepared in loads.items():
                 for name, command in prepared.commands.items():
-                    took.setdefault(load, {}).setdefault((sink, name), []).append(seconds(command, prepared.lines, sink))
+                    took.setdefault(load, {}).setdefault((sink, name), []).append(
+                        seconds(command, prepared.lines, sink)
+                    )
     return took
 
 
 def report_speed(took, count):
     """Prints a row for each kind of output and program, and returns the lines a second of the middle round of each."""
-    print(f"\n{'output to':<10} {'program':<8} {'lines a second':>14} {'us a line':>9} {'fastest round':>14} {'slowest round':>14}")
+    print(
+        f"\n{'output to':<10} {'program':<8} {'lines a second':>14} "
+        f"{'us a line':>9} {'fastest round':>14} {'slowest round':>14}"
+    )
     speed = {}
     for (sink, name), rounds in took.items():
         middle = statistics.median(rounds)
         speed[sink, name] = count / middle
-        print(f"{SINKS[sink]:<10} {name:<8} {count / middle:>14,.0f} {1e6 * middle / count:>9.2f} {min(rounds):>12.3f} s {max(rounds):>12.3f} s")
+        print(
+            f"{SINKS[sink]:<10} {name:<8} {count / middle:>14,.0f} "
+            f"{1e6 * middle / count:>9.2f} {min(rounds):>12.3f} s {max(rounds):>12.3f} s"
+        )
     return speed
 
 
@@ -163,7 +176,10 @@ def report_aims(speed, each):
     print("\nAims")
     for sink, shown in SINKS.items():
         farebox, plain = speed[sink, "farebox"], speed[sink, "plain"]
-        report_aim(f"to {shown}: {farebox / plain:.2f} of the plain loop's speed (aim: at least {AIM_RATIO})", farebox / plain >= AIM_RATIO)
+        report_aim(
+            f"to {shown}: {farebox / plain:.2f} of the plain loop's speed (aim: at least {AIM_RATIO})",
+            farebox / plain >= AIM_RATIO,
+        )
         report_aim(f"to {shown}: {farebox:,.0f} lines a second (aim: at least {AIM_SPEED:,})", farebox >= AIM_SPEED)
     report_aim(f"{each:.1f} bytes of peak memory a line (aim: at most {AIM_BYTES})", each <= AIM_BYTES)
 
@@ -174,11 +190,15 @@ def report_aims_of_caps(speeds):
         if load in speeds and other in speeds:
             for sink, shown in SINKS.items():
                 ratio = speeds[load][sink, "farebox"] / speeds[other][sink, "farebox"]
-                report_aim(f"{load.name} to {shown}: {ratio:.2f} of the speed of {other.name} (aim: at least {aim})", ratio >= aim)
+                report_aim(
+                    f"{load.name} to {shown}: {ratio:.2f} of the speed of {other.name} (aim: at least {aim})",
+                    ratio >= aim,
+                )
 
 
 def report_quotes(took, prepared):
-    """Prints how many quotes a second there are, by the time that they take on top of the taps before them, and how many taps."""
+    """Prints how many quotes a second there are, by the time that they take on top of the taps before them, and how
+    many taps."""
     taps, quotes = prepared[CAPPED_WEEK].count, prepared[QUOTED_WEEK].count - prepared[CAPPED_WEEK].count
     print(f"\n{'output to':<10} {'quotes a second':>15} {'us a quote':>10} {'taps a second':>14}")
     for sink, shown in SINKS.items():
@@ -196,7 +216,10 @@ def prepare(load, words, program):
     write_lines(lines, map(rules.line, asked))
     middle_reply = sorted(replies, key=len)[len(asked) // 2].rstrip()
     commands = {"farebox": [program, "run", fare_file(load.fares), LONDON], "plain": [f"{OUT}/plain", middle_reply]}
-    print(f"{load.name}: {load.title}, with {load.fares}; {len(asked):,} lines of {len(accounts):,} accounts, seed {words.seed}")
+    print(
+        f"{load.name}: {load.title}, with {load.fares}; {len(asked):,} lines "
+        f"of {len(accounts):,} accounts, seed {words.seed}"
+    )
     check_answers(commands["farebox"], fares, asked, replies, accounts, load.days_shown)
     return Prepared(lines, commands, len(asked))
 
@@ -205,7 +228,10 @@ def main():
     words = argparse.ArgumentParser(description=__doc__)
     words.add_argument("--load", choices=[*LOADS, "all"], default="all")
     words.add_argument("--seed", type=int, default=1)
-    words.add_argument("--taps", type=int, default=200_000, help="of each load; 4 an account in a day, 20 in a week; corrections and quotes come on top")
+    words.add_argument(
+        "--taps", type=int, default=200_000,
+        help="of each load; 4 an account in a day, 20 in a week; corrections and quotes come on top",
+    )
     words.add_argument("--rounds", type=int, default=7)
     words.add_argument("--program", help="a program to measure in the place of the built one")
     words = words.parse_args()

@@ -1,6 +1,6 @@
 #!/usr/bin/env python3
-"""Times taps through farebox's lanes at sockets, without journals and with them, beside a session through a pipe: many ahead, one at a time, and
-none; and the start of a service over journals. See README.md."""
+"""Times taps through farebox's lanes at sockets, without journals and with them, beside a session through a pipe: many
+ahead, one at a time, and none; and the start of a service over journals. See README.md."""
 
 import argparse
 import contextlib
@@ -22,7 +22,8 @@ from oracle.loads import DAY, MONDAY
 
 HOST, FIRST_PORT, LAST_PORT = "127.0.0.1", 20_000, 32_000
 FARES = f"{ROOT}/examples/{DAY.fares}"
-# How many lines a client sends before it waits for replies, and the seconds between a lone tap's reply and the next lone tap.
+# How many lines a client sends before it waits for replies, and the seconds between a lone tap's reply and the next
+# lone tap.
 AHEAD, PAUSE = 64, 0.005
 CLIENTS = multiprocessing.get_context("fork")
 
@@ -53,7 +54,8 @@ def told(way):
 
 
 def exchange(way, lines):
-    """Sends lines of one reply line each, many at a time and so many ahead, and returns when the first was sent and the last reply came."""
+    """Sends lines of one reply line each, many at a time and so many ahead, and returns when the first was sent and the
+    last reply came."""
     sent = replied = 0
     began = time.perf_counter()
     while replied < len(lines):
@@ -90,11 +92,14 @@ def free_port(lanes):
 
 @contextlib.contextmanager
 def serving(program, lanes, shards, folder=None):
-    """A service that listens, and its first port. Each lane serves one session, and the service has ended with a close afterwards. In a folder
-    it has journals."""
+    """A service that listens, and its first port. Each lane serves one session, and the service has ended with a close
+    afterwards. In a folder it has journals."""
     port = free_port(lanes)
     numbers = {"port": port, "lanes": lanes, "shards": shards, "sessions": 1, "close": MONDAY}
-    command = [program, "serve", FARES, LONDON, *(word for name, number in numbers.items() for word in (f"--{name}", str(number)))]
+    command = [
+        program, "serve", FARES, LONDON,
+        *(word for name, number in numbers.items() for word in (f"--{name}", str(number))),
+    ]
     command += ["--journal", folder] if folder else []
     with subprocess.Popen(command, stdin=subprocess.DEVNULL, stdout=subprocess.PIPE, stderr=subprocess.PIPE) as process:
         # A service with journals first warns that the fare file has no bands.
@@ -120,7 +125,9 @@ def client(port, lines, work, ready, came):
 def at_lanes(port, dealt, work):
     """What comes of a client for each lane, all at once."""
     ready, came = CLIENTS.Barrier(len(dealt)), CLIENTS.Queue()
-    clients = [CLIENTS.Process(target=client, args=(port + lane, lines, work, ready, came)) for lane, lines in enumerate(dealt)]
+    clients = [
+        CLIENTS.Process(target=client, args=(port + lane, lines, work, ready, came)) for lane, lines in enumerate(dealt)
+    ]
     for it in clients:
         it.start()
     results = [came.get() for _ in clients]
@@ -132,7 +139,9 @@ def at_lanes(port, dealt, work):
 def by_serve(program, count, lines, work, keeps=False):
     """What comes of a service of so many lanes and shards, which may keep journals that are made anew."""
     os.makedirs(OUT, exist_ok=True)
-    with tempfile.TemporaryDirectory(dir=OUT) as folder, serving(program, count, count, folder if keeps else None) as (_, port):
+    with tempfile.TemporaryDirectory(dir=OUT) as folder, serving(
+        program, count, count, folder if keeps else None
+    ) as (_, port):
         return at_lanes(port, [lines[lane::count] for lane in range(count)], work)
 
 
@@ -152,7 +161,9 @@ def seconds_to_begin(program, count, lines):
 
 
 def by_run(program, lines, work):
-    with subprocess.Popen([program, "run", FARES, LONDON], stdin=subprocess.PIPE, stdout=subprocess.PIPE, bufsize=0) as process:
+    with subprocess.Popen(
+        [program, "run", FARES, LONDON], stdin=subprocess.PIPE, stdout=subprocess.PIPE, bufsize=0
+    ) as process:
         came = work(way_of_pipes(process), lines)
         process.stdin.close()
     return [came]
@@ -198,7 +209,9 @@ def main():
     words = argparse.ArgumentParser(description=__doc__)
     words.add_argument("--taps", type=int, default=200_000)
     words.add_argument("--lone", type=int, default=400, help="how many taps are sent one at a time in each round")
-    words.add_argument("--lanes", type=int, nargs="+", default=[1, 2, 4], help="how many lanes and as many shards are measured")
+    words.add_argument(
+        "--lanes", type=int, nargs="+", default=[1, 2, 4], help="how many lanes and as many shards are measured"
+    )
     words.add_argument("--rounds", type=int, default=5)
     words.add_argument("--idle", type=float, default=5, help="for how many seconds nobody speaks to a service")
     words.add_argument("--seed", type=int, default=1)
@@ -215,16 +228,24 @@ def main():
     most = max(words.lanes)
     programs[f"{most} and {most}, kept"] = lambda lines, work: by_serve(program, most, lines, work, True)
     speed, took = measured(programs, lines, lone, words.rounds)
-    print(f"{len(lines):,} taps of a day, {AHEAD} ahead, many a send; {len(lone):,} lone taps a round, {1e3 * PAUSE:.0f} ms apart on each lane;"
-          f" {words.rounds} rounds in turn, middles; {os.cpu_count()} processors, the clients' among them\n")
-    print(f"{'lanes, shards':<16} {'taps a second':>14} {'slowest':>10} {'fastest':>10} {'lone tap':>12} {'99 of 100':>12}")
+    print(
+        f"{len(lines):,} taps of a day, {AHEAD} ahead, many a send; {len(lone):,} lone taps a round, {1e3 * PAUSE:.0f} "
+        "ms apart on each lane;"
+        f" {words.rounds} rounds in turn, middles; {os.cpu_count()} processors, the clients' among them\n"
+    )
+    print(
+        f"{'lanes, shards':<16} {'taps a second':>14} {'slowest':>10} "
+        f"{'fastest':>10} {'lone tap':>12} {'99 of 100':>12}"
+    )
     for name, rounds in speed.items():
         ranked = sorted(took[name])
         print(f"{name:<16} {statistics.median(rounds):>14,.0f} {min(rounds):>10,.0f} {max(rounds):>10,.0f}"
               f" {1e6 * statistics.median(ranked):>9,.0f} us {1e6 * ranked[len(ranked) * 99 // 100]:>9,.0f} us")
     begun = statistics.median(seconds_to_begin(program, most, lines) for _ in range(words.rounds))
     print(f"\na service of {most} shards over journals of {len(lines):,} lines speaks after {begun:.2f} s")
-    print(f"\nan idle service of 16 shards takes {100 * idle_share(program, 16, words.idle):.1f} percent of a processor")
+    print(
+        f"\nan idle service of 16 shards takes {100 * idle_share(program, 16, words.idle):.1f} percent of a processor"
+    )
 
 
 if __name__ == "__main__":

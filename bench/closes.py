@@ -1,5 +1,6 @@
 #!/usr/bin/env python3
-"""Times closes of a day through farebox: a first one, and the same again after a tenth of the accounts had a late tap. See README.md."""
+"""Times closes of a day through farebox: a first one, and the same again after a tenth of the accounts had a late tap.
+See README.md."""
 
 import argparse
 import random
@@ -82,7 +83,10 @@ def close(process, wanted):
         got.append(process.stdout.readline())
     took = time.perf_counter() - began
     if b"".join(got).decode() != wanted:
-        sys.exit(f"bench: a close was answered by {len(got)} lines, the last of them {got[-1]!r}, and not by those of the rules")
+        sys.exit(
+            f"bench: a close was answered by {len(got)} lines, the last of "
+            f"them {got[-1]!r}, and not by those of the rules"
+        )
     return Took(took, before, peak_bytes(process))
 
 
@@ -105,7 +109,8 @@ def report(it, which, rounds):
     middle = statistics.median(round.seconds for round in rounds)
     before, after = (max(getattr(round, when) for round in rounds) / 2**20 for when in ("before", "after"))
     print(
-        f"{it.accounts:>8,}  {which:<6} {middle:>9.3f} s {it.accounts / middle:>18,.0f} {1e6 * middle / it.accounts:>13.1f}"
+        f"{it.accounts:>8,}  {which:<6} {middle:>9.3f} s {it.accounts / middle:>18,.0f} "
+        f"{1e6 * middle / it.accounts:>13.1f}"
         f" {before:>12.1f} MiB {after:>9.1f} MiB"
     )
     return middle
@@ -126,12 +131,18 @@ def main():
         for it, rounds in zip(loads, took):
             rounds.append(session(words.program or PROGRAM, it))
     print(f"{words.rounds} rounds in turn on one core; medians; all replies are those that the rules give\n")
-    print(f"{'accounts':>8}  {'close':<6} {'time':>11} {'accounts a second':>18} {'us an account':>13} {'peak before':>16} {'at its end':>13}")
+    print(
+        f"{'accounts':>8}  {'close':<6} {'time':>11} {'accounts a second':>18} "
+        f"{'us an account':>13} {'peak before':>16} {'at its end':>13}"
+    )
     for which, name in enumerate(("first", "again")):
         middles = [report(it, name, [closes[which] for closes in rounds]) for it, rounds in zip(loads, took)]
         for (least, less), (most, more) in zip(zip(loads, middles), zip(loads[1:], middles[1:])):
             growth, met = more / less, "met" if more / less <= AIM_GROWTH else "MISSED"
-            print(f"  {name}: {most.accounts:,} accounts take {growth:.1f} times the time of {least.accounts:,} (aim: at most {AIM_GROWTH}) {met}")
+            print(
+                f"  {name}: {most.accounts:,} accounts take {growth:.1f} times the time of "
+                f"{least.accounts:,} (aim: at most {AIM_GROWTH}) {met}"
+            )
 
 
 if __name__ == "__main__":

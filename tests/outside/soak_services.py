@@ -9,8 +9,8 @@ import threading
 import time
 from typing import NamedTuple, Optional
 
-from soaks.clients import Fault
-from soaks.lines import SHAPES, WEEK_DAYS, Shape
+from soak_clients import Fault
+from soak_lines import SHAPES, WEEK_DAYS, Shape
 
 # A shard that gets no memory for less than so many seconds makes no reply late.
 LATE_AFTER = 9
@@ -60,9 +60,11 @@ def plan_of(draw):
 
 
 def status_bytes(process, name):
-    """What Linux tells of a process: VmRSS, what it holds, VmHWM, the most that it held, or VmData, what its limit counts. 0 of one that
-    has ended."""
-    with contextlib.suppress(OSError), open(f"/proc/{process.pid}/status", encoding="ascii", errors="replace") as status:
+    """What Linux tells of a process: VmRSS, what it holds, VmHWM, the most that it held, or VmData, what its limit
+    counts. 0 of one that has ended."""
+    with contextlib.suppress(OSError), open(
+        f"/proc/{process.pid}/status", encoding="ascii", errors="replace"
+    ) as status:
         return 1024 * next((int(it.split()[1]) for it in status if it.startswith(f"{name}:")), 0)
     return 0
 
@@ -81,7 +83,8 @@ class Service:
         self.may_lack, self.may_be_late = False, False
         self.lifted = threading.Event()
         self.lifted.set()
-        # The squeezes that are to come; when the one that is on began, and for how long it is; and how many there were, for how long.
+        # The squeezes that are to come; when the one that is on began, and for how long it is; and how many there were,
+        # for how long.
         self.squeezes = collections.deque(plan.squeezes)
         self.began, self.seconds = 0.0, 0.0
         self.squeezed, self.seconds_squeezed = 0, 0.0
@@ -121,7 +124,9 @@ class Service:
         if self.process.poll() is not None:
             self.fail(Fault("the service ended before its clients"))
             return
-        if len(self.held) < 4 and 4 * sum(len(client.said) for client in clients) >= (len(self.held) + 1) * self.planned:
+        if len(self.held) < 4 and 4 * sum(
+            len(client.said) for client in clients
+        ) >= (len(self.held) + 1) * self.planned:
             self.held.append(status_bytes(self.process, "VmRSS"))
         if not self.lifted.is_set():
             if time.monotonic() >= self.began + self.seconds:
@@ -130,14 +135,19 @@ class Service:
             self.squeeze(self.squeezes.popleft())
 
     def fail(self, fault):
-        """Keeps the first fault, and ends the process, so that nobody waits for it. Where that has ended by itself, this is the fault."""
+        """Keeps the first fault, and ends the process, so that nobody waits for it. Where that has ended by itself,
+        this is the fault."""
         with self.lock:
             if self.fault:
                 return
             with contextlib.suppress(subprocess.TimeoutExpired):
                 self.process.wait(1)
             status = self.process.poll()
-            died = "" if status is None else f"the service ended with status {status}, and said {self.process.stderr.read()!r}; "
+            died = (
+                ""
+                if status is None
+                else f"the service ended with status {status}, and said {self.process.stderr.read()!r}; "
+            )
             self.fault = Fault(f"{died}{fault}")
             self.process.kill()
 

@@ -1,10 +1,12 @@
 #!/usr/bin/env python3
 """Times restoring the accounts of a ledger in a file. See README.md.
 
-The program in `restore.txt` only restores, as `farebox rebuild` does before it prints lines. A program that loads SQL takes ten minutes
-of each run of the checks: so it is no crate of the repository, and is proved and built in a copy of it.
+The program in `restore.txt` only restores, as `farebox rebuild` does before it prints lines. A program that loads SQL
+takes ten minutes of each run of the checks: so it is no crate of the repository, and is proved and built in a copy of
+it.
 
-Status 1: another number of accounts, taps or corrections was restored than the file has, or the program was not built or failed.
+Status 1: another number of accounts, taps or corrections was restored than the file has, or the program was not built
+or failed.
 """
 
 import argparse
@@ -33,10 +35,17 @@ CREDIT, PENCE = 2, 100
 # As docs/FILES.md has them.
 TABLES = """
 CREATE TABLE meta (name TEXT NOT NULL PRIMARY KEY, version INTEGER NOT NULL) STRICT;
-CREATE TABLE postings2 (id INTEGER PRIMARY KEY AUTOINCREMENT, account INTEGER NOT NULL, week INTEGER NOT NULL, through INTEGER NOT NULL, version INTEGER NOT NULL, due INTEGER NOT NULL, amount INTEGER NOT NULL, edition INTEGER NOT NULL, UNIQUE (account, week, through, version)) STRICT;
-CREATE TABLE shares2 (posting INTEGER NOT NULL REFERENCES postings2 (id), operator INTEGER NOT NULL, amount INTEGER NOT NULL, PRIMARY KEY (posting, operator)) STRICT;
-CREATE TABLE taps (account INTEGER NOT NULL, reader INTEGER NOT NULL, seq INTEGER NOT NULL, utc INTEGER NOT NULL, day INTEGER NOT NULL, second INTEGER NOT NULL, place INTEGER NOT NULL, kind INTEGER NOT NULL, PRIMARY KEY (account, reader, seq)) STRICT;
-CREATE TABLE fixes (account INTEGER NOT NULL, staff INTEGER NOT NULL, seq INTEGER NOT NULL, what INTEGER NOT NULL, a INTEGER NOT NULL, b INTEGER NOT NULL, c INTEGER NOT NULL, d INTEGER NOT NULL, e INTEGER NOT NULL, PRIMARY KEY (account, staff, seq)) STRICT;
+CREATE TABLE postings2 (id INTEGER PRIMARY KEY AUTOINCREMENT, account INTEGER NOT NULL, week INTEGER NOT NULL, \
+through INTEGER NOT NULL, version INTEGER NOT NULL, due INTEGER NOT NULL, amount INTEGER NOT NULL, \
+edition INTEGER NOT NULL, UNIQUE (account, week, through, version)) STRICT;
+CREATE TABLE shares2 (posting INTEGER NOT NULL REFERENCES postings2 (id), operator INTEGER NOT NULL, \
+amount INTEGER NOT NULL, PRIMARY KEY (posting, operator)) STRICT;
+CREATE TABLE taps (account INTEGER NOT NULL, reader INTEGER NOT NULL, seq INTEGER NOT NULL, utc INTEGER NOT NULL, \
+day INTEGER NOT NULL, second INTEGER NOT NULL, place INTEGER NOT NULL, kind INTEGER NOT NULL, \
+PRIMARY KEY (account, reader, seq)) STRICT;
+CREATE TABLE fixes (account INTEGER NOT NULL, staff INTEGER NOT NULL, seq INTEGER NOT NULL, what INTEGER NOT NULL, \
+a INTEGER NOT NULL, b INTEGER NOT NULL, c INTEGER NOT NULL, d INTEGER NOT NULL, e INTEGER NOT NULL, \
+PRIMARY KEY (account, staff, seq)) STRICT;
 INSERT INTO meta VALUES ('farebox', 2);
 """
 
@@ -50,16 +59,23 @@ class Took(NamedTuple):
 
 def row(tap):
     # In winter London's clocks show UTC.
-    return tap.account, tap.reader, tap.seq, tap.utc, service_day(tap.utc), tap.utc % 86_400, tap.place, KINDS.index(tap.kind)
+    return tap.account, tap.reader, tap.seq, tap.utc, service_day(
+        tap.utc
+    ), tap.utc % 86_400, tap.place, KINDS.index(
+        tap.kind
+    )
 
 
 def write(path, accounts, seed):
-    """A ledger with four taps of each account in the order of a close, and a Credit of each tenth; returns how many taps and corrections."""
+    """A ledger with four taps of each account in the order of a close, and a Credit of each tenth; returns how many
+    taps and corrections."""
     draw = random.Random(seed)
     with sqlite3.connect(path) as db:
         db.executescript(TABLES)
         taps = [row(tap) for account in range(1, accounts + 1) for tap in sorted(trip_taps(draw, account, TAPS_EACH))]
-        fixes = [(account, 1, account, CREDIT, MONDAY, PENCE, 0, 0, 0) for account in range(ONE_IN, accounts + 1, ONE_IN)]
+        fixes = [
+            (account, 1, account, CREDIT, MONDAY, PENCE, 0, 0, 0) for account in range(ONE_IN, accounts + 1, ONE_IN)
+        ]
         db.executemany(f"INSERT INTO taps VALUES ({', '.join('?' * 8)})", taps)
         db.executemany(f"INSERT INTO fixes VALUES ({', '.join('?' * 9)})", fixes)
     db.close()
@@ -68,8 +84,12 @@ def write(path, accounts, seed):
 
 def build():
     """Proves and builds the program in a copy of the tree, where that is missing or older than the sources."""
-    print("restore: bringing the program up to date, which takes many minutes where it has to be proved", file=sys.stderr)
-    tracked = subprocess.run(["git", "ls-files", "crates"], cwd=ROOT, capture_output=True, text=True, check=True).stdout.split()
+    print(
+        "restore: bringing the program up to date, which takes many minutes where it has to be proved", file=sys.stderr
+    )
+    tracked = subprocess.run(
+        ["git", "ls-files", "crates"], cwd=ROOT, capture_output=True, text=True, check=True
+    ).stdout.split()
     # What earlier runs proved is kept, and nothing else.
     for folder in glob.glob(f"{COPY}/crates/*/*"):
         if os.path.basename(folder) != "out":
@@ -79,11 +99,15 @@ def build():
         shutil.copyfile(f"{ROOT}/{name}", f"{COPY}/{name}")
     os.makedirs(f"{CRATE}/src", exist_ok=True)
     shutil.copyfile(f"{HERE}/restore.txt", f"{CRATE}/src/main.rt")
-    with open(f"{ROOT}/crates.txt", encoding="utf-8") as listed, open(f"{COPY}/crates.txt", "w", encoding="utf-8") as copied:
+    with open(f"{ROOT}/crates.txt", encoding="utf-8") as listed, open(
+        f"{COPY}/crates.txt", "w", encoding="utf-8"
+    ) as copied:
         copied.write(listed.read() + LINE)
     with tempfile.TemporaryDirectory() as folder:
         words = ["rt", "run", "--", FARES, f"{folder}/ledger.db"]
-        built = subprocess.run(words, cwd=CRATE, stdin=subprocess.DEVNULL, stdout=subprocess.PIPE, stderr=subprocess.STDOUT, text=True)
+        built = subprocess.run(
+            words, cwd=CRATE, stdin=subprocess.DEVNULL, stdout=subprocess.PIPE, stderr=subprocess.STDOUT, text=True
+        )
     if built.returncode:
         sys.exit(f"{built.stdout[-2_000:]}restore: the program was not built")
 
@@ -91,7 +115,9 @@ def build():
 def restore(program, path, wanted):
     """One run; its peak is that of the whole program, with the page cache of the file."""
     with tempfile.TemporaryFile() as told, tempfile.TemporaryFile() as took:
-        started = subprocess.Popen([program, FARES, path], stdin=subprocess.DEVNULL, stdout=told, stderr=took, preexec_fn=on_one_core)
+        started = subprocess.Popen(
+            [program, FARES, path], stdin=subprocess.DEVNULL, stdout=told, stderr=took, preexec_fn=on_one_core
+        )
         _, status, used = os.wait4(started.pid, 0)
         told.seek(0)
         took.seek(0)
@@ -120,7 +146,10 @@ def main():
             taps, fixes = write(path, accounts, words.seed)
             took = [restore(program, path, (accounts, taps, fixes)) for _ in range(words.rounds)]
             middle, peak = statistics.median(it.seconds for it in took), max(it.peak for it in took) / 2**20
-            print(f"| {accounts:,} | {taps:,} | {fixes:,} | {middle:.3f} s | {(taps + fixes) / middle:,.0f} | {peak:.1f} MiB |")
+            print(
+                f"| {accounts:,} | {taps:,} | {fixes:,} | {middle:.3f} s | "
+                f"{(taps + fixes) / middle:,.0f} | {peak:.1f} MiB |"
+            )
 
 
 if __name__ == "__main__":

@@ -1,14 +1,14 @@
 #!/usr/bin/env python3
 """Reads a ledger in a file with the system's own `sqlite3`, which has no part in what wrote it.
 
-    tests/ledger               # some seconds, after rt ci or rt run, which build the program
+    tests/ledger.py               # some seconds, after rt ci or rt run, which build the program
 
-A session of the program closes a day after each tap of a journey, over a ledger in a file. Here SQLite is asked whether that file is whole, for all of its rows, and for all that
-docs/FILES.md says an accountant may ask. What it has to answer was worked out by hand: an entry is charged the maximum, 860,
-with its exit the journey costs 340, so 520 are given back, and all of it is operator 1's. Another answer is printed beside what
-was expected, and ends this script with status 1. Where there is no `sqlite3`, or one before 3.37, which does not read STRICT
-tables, it says so and compares nothing. Two of the questions must have no answer: once an amount in the file is changed they
-have one.
+A session of the program closes a day after each tap of a journey, over a ledger in a file. Here SQLite is asked whether
+that file is whole, for all of its rows, and for all that docs/FILES.md says an accountant may ask. What it has to
+answer was worked out by hand: an entry is charged the maximum, 860, with its exit the journey costs 340, so 520 are
+given back, and all of it is operator 1's. Another answer is printed beside what was expected, and ends this script with
+status 1. Where there is no `sqlite3`, or one before 3.37, which does not read STRICT tables, it says so and compares
+nothing. Two of the questions must have no answer: once an amount in the file is changed they have one.
 """
 
 import os
@@ -63,9 +63,12 @@ def reads_strict_tables(sqlite3):
 def write_ledger(folder):
     """The path of the file that a session leaves in this folder, or None where it does not reply as it should."""
     file = f"{folder}/ledger.db"
-    ran = subprocess.run([PROGRAM, *RUN_SAMPLE, "--ledger", file], input=LINES, stdout=subprocess.PIPE, stderr=subprocess.STDOUT, text=True)
+    ran = subprocess.run(
+        [PROGRAM, *RUN_SAMPLE, "--ledger", file], input=LINES, stdout=subprocess.PIPE, stderr=subprocess.STDOUT,
+        text=True,
+    )
     if ran.returncode or ran.stdout != REPLIES:
-        print(f"tests/ledger: the session replied\n{ran.stdout}\n  and not\n{REPLIES}")
+        print(f"tests/ledger.py: the session replied\n{ran.stdout}\n  and not\n{REPLIES}")
         return None
     return file
 
@@ -74,33 +77,39 @@ def wrong(sqlite3, file, asked):
     """How many of these pairs of a question and its answer are wrong, each of which is printed."""
     count = 0
     for sql, wanted in asked:
-        ran = subprocess.run([sqlite3, "-batch", file, sql], stdout=subprocess.PIPE, stderr=subprocess.STDOUT, text=True)
+        ran = subprocess.run(
+            [sqlite3, "-batch", file, sql], stdout=subprocess.PIPE, stderr=subprocess.STDOUT, text=True
+        )
         found = ran.stdout.rstrip("\n")
         if ran.returncode or found != wanted:
             count += 1
-            print(f"tests/ledger: {sql.strip()}\n  came to\n{found}\n  and not to\n{wanted}")
+            print(f"tests/ledger.py: {sql.strip()}\n  came to\n{found}\n  and not to\n{wanted}")
     return count
 
 
 def main():
     sqlite3 = shutil.which("sqlite3")
     if not sqlite3 or not reads_strict_tables(sqlite3):
-        print("tests/ledger: no sqlite3 from 3.37 on is here, so the file of a ledger was not read by it")
+        print("tests/ledger.py: no sqlite3 from 3.37 on is here, so the file of a ledger was not read by it")
         return 0
     if not os.path.isfile(PROGRAM):
-        print("tests/ledger: crates/farebox has no built program: run rt ci, or rt run there")
+        print("tests/ledger.py: crates/farebox has no built program: run rt ci, or rt run there")
         return 1
     asked = questions()
     if len(asked) != len(ASKED):
-        print(f"tests/ledger: docs/FILES.md has {len(asked)} questions, and {len(ASKED)} have an answer here")
+        print(f"tests/ledger.py: docs/FILES.md has {len(asked)} questions, and {len(ASKED)} have an answer here")
         return 1
-    questions_of_whole, questions_of_changed = [*WHOLE, *ROWS, *zip(asked, ASKED)], [(CHANGED, ""), *zip(asked[-2:], ASKED_THEN)]
+    questions_of_whole = [*WHOLE, *ROWS, *zip(asked, ASKED)]
+    questions_of_changed = [(CHANGED, ""), *zip(asked[-2:], ASKED_THEN)]
     with tempfile.TemporaryDirectory() as folder:
         file = write_ledger(folder)
         if not file:
             return 1
         failed = wrong(sqlite3, file, questions_of_whole) + wrong(sqlite3, file, questions_of_changed)
-    print(f"tests/ledger: {len(questions_of_whole) + len(questions_of_changed)} answers of sqlite3, {failed} of them wrong")
+    print(
+        f"tests/ledger.py: {len(questions_of_whole) + len(questions_of_changed)} answers of sqlite3, {failed} of them "
+        f"wrong"
+    )
     return 1 if failed else 0
 
 

@@ -2,19 +2,21 @@
 
 import collections
 
-from soaks.clients import FOR_NOW, LATE, Fault, grouped
+from soak_clients import FOR_NOW, LATE, Fault, grouped
 from support import running
 from support.repository import LONDON, SAMPLE
 
 
 class Told:
-    """What a lane's lines came to one after another, of accounts that it alone speaks of: each line that was taken with its reply."""
+    """What a lane's lines came to one after another, of accounts that it alone speaks of: each line that was taken with
+    its reply."""
 
     def __init__(self, client):
         self.client = client
         # Of each line its reply; b"" where any may be, None where it is accepted and nothing was heard of it.
         self.pairs = []
-        # The lines that were accepted; and of those that were sent without a reply at which places of all, and of what was said.
+        # The lines that were accepted; and of those that were sent without a reply at which places of all, and of what
+        # was said.
         self.taken, self.unheard = set(), {}
         # Of places of what was said, whether the line was taken there.
         self.fates = {}
@@ -63,7 +65,10 @@ class Told:
                 if self.fates.get(at) is False:
                     was_left = line
                 elif self.fates.get(at) and was_left:
-                    raise Fault(f"lane {self.client.lane}: on a lost connection {line.text!r} was taken, and {was_left.text!r} before it was not")
+                    raise Fault(
+                        f"lane {self.client.lane}: on a lost connection {line.text!r} was "
+                        f"taken, and {was_left.text!r} before it was not"
+                    )
 
 
 def shared_lines(clients):
@@ -91,7 +96,10 @@ def shared_lines(clients):
         if verbs[b"AGAIN"] and not verbs[b"OK"] and text not in sent_unheard:
             raise Fault(f"{text!r} was answered AGAIN, and never OK, though each of its replies was heard")
         if verbs[b"NO"] and (text in accepted or line.number not in numbers):
-            raise Fault(f"{text!r} was refused, and {'accepted' if text in accepted else 'nothing else of its number was accepted'}")
+            raise Fault(
+                f"{text!r} was refused, and "
+                f"{'accepted' if text in accepted else 'nothing else of its number was accepted'}"
+            )
     return list(accepted.values())
 
 
@@ -111,17 +119,26 @@ def differs(wanted, reply):
 
 
 def compare(pairs, day, close):
-    """Compares what was heard with the replies of one session. The last one is what was written of the close, or None where it was refused."""
+    """Compares what was heard with the replies of one session. The last one is what was written of the close, or None
+    where it was refused."""
     text = b"".join(line.text for line, _ in pairs) + b"CLOSE %d\n" % day
     came = running.run(["run", SAMPLE, LONDON], text)
     replies = list(grouped(came.output.splitlines()))
     if came.status or came.errors or len(replies) != len(pairs) + 1:
-        raise Fault(f"one session ended with status {came.status}, {came.errors!r} and {len(replies)} replies to {len(pairs) + 1} lines")
+        raise Fault(
+            f"one session ended with status {came.status}, {came.errors!r} and "
+            f"{len(replies)} replies to {len(pairs) + 1} lines"
+        )
     for at, ((line, wanted), reply) in enumerate(zip(pairs, replies)):
         if differs(wanted, reply):
             heard = "OK, where no reply was heard," if wanted is None else repr(wanted[:300])
-            raise Fault(f"line {at + 1:,} of one session, {line.text!r}, is answered {reply[:300]!r} there, and {heard} by the service")
+            raise Fault(
+                f"line {at + 1:,} of one session, {line.text!r}, is answered "
+                f"{reply[:300]!r} there, and {heard} by the service"
+            )
     if close is not None and close != replies[-1]:
         ours, theirs = close.splitlines(), replies[-1].splitlines()
         at = next((at for at, both in enumerate(zip(ours, theirs)) if len(set(both)) > 1), min(len(ours), len(theirs)))
-        raise Fault(f"CLOSE {day}: line {at + 1} is {ours[at:at + 1]} by the service, and {theirs[at:at + 1]} in one session")
+        raise Fault(
+            f"CLOSE {day}: line {at + 1} is {ours[at:at + 1]} by the service, and {theirs[at:at + 1]} in one session"
+        )

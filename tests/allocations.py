@@ -1,20 +1,22 @@
 #!/usr/bin/env python3
-"""Runs the built program, and tests of its crates, with each of their allocations failing in turn, and judges every answer.
+"""Runs the built program, and tests of its crates, with each of their allocations failing in turn, and judges every
+answer.
 
-    tests/allocations          # a minute, after rt ci or rt test, which build the tests; and minutes more where the program has to be built
+    tests/allocations.py    # a minute, after rt ci or rt test; minutes more if the program has to be built
 
-One session is examples/late-tap.txt, and its four taps again; another is a journey by rail, the day of it shown and what is due for it
-told, with caps; another has a correction of each form; one has an account of so many taps, late ones and corrections that its lists
-grow; one has closes, with a refund between them; one has closes of two accounts, of which one is voided; and one has lines that are
-refused. Each may end in three ways: with the right answers; with `farebox: 90 Memory`, or for its ledger `farebox: 43 Store`, and
-status 1 before any reply; or with `NO 90 Memory` for one line, for a close also `NO 43 Store` or `NO 44 DeskFault`, and the others
-answered as if that line had not been sent. And a fare file with caps and one with an edition are checked, and the statement of the
-journey by rail written: that ends with its line, or with the whole statement, or with `farebox: 90 Memory`. All else is a fault of the
-program, and ends this script with status 1. No test in a crate can make an allocation fail. So some of them only mark where one may,
-and where a call has said that one did: each of these has to pass whichever of these allocations fails, in some run a call has to say
-so, and none may where none fails. They are of calls that no line of the program shows: that what they are made on is as it was, that
-they succeed the second time, what is restored, what a ledger's tables then hold, and a worker's turn. It wants Linux, Python 3.8 or
-later and the toolchain, whose compiler makes the failing allocator.
+One session is examples/late-tap.txt, and its four taps again; another is a journey by rail, the day of it shown and
+what is due for it told, with caps; another has a correction of each form; one has an account of so many taps, late ones
+and corrections that its lists grow; one has closes, with a refund between them; one has closes of two accounts, of
+which one is voided; and one has lines that are refused. Each may end in three ways: with the right answers; with
+`farebox: 90 Memory`, or for its ledger `farebox: 43 Store`, and status 1 before any reply; or with `NO 90 Memory` for
+one line, for a close also `NO 43 Store` or `NO 44 DeskFault`, and the others answered as if that line had not been
+sent. And a fare file with caps and one with an edition are checked, and the statement of the journey by rail written:
+that ends with its line, or with the whole statement, or with `farebox: 90 Memory`. All else is a fault of the program,
+and ends this script with status 1. No test in a crate can make an allocation fail. So some of them only mark where one
+may, and where a call has said that one did: each of these has to pass whichever of these allocations fails, in some run
+a call has to say so, and none may where none fails. They are of calls that no line of the program shows: that what they
+are made on is as it was, that they succeed the second time, what is restored, what a ledger's tables then hold, and a
+worker's turn. It wants Linux, Python 3.8 or later and the toolchain, whose compiler makes the failing allocator.
 """
 
 import collections
@@ -38,9 +40,9 @@ STATEMENT = ["statement", SAMPLE, LONDON, "7", "19736"]
 COUNTED_ONE = COUNTED.decode()
 COUNTED_TWO = COUNTED_ONE.replace("\n", " editions 1\n")
 
-# The prices after each of the four taps, by the one that is refused for memory (0: none is). By hand from docs/RULES.md:
-# a boarding pays 175 pence, and is free up to 3,600 s after one that paid. The taps are of 07:00:00, 07:50:00, 08:23:20
-# and, late, 06:43:20.
+# The prices after each of the four taps, by the one that is refused for memory (0: none is). By hand from
+# docs/RULES.md: a boarding pays 175 pence, and is free up to 3,600 s after one that paid. The taps are of 07:00:00,
+# 07:50:00, 08:23:20 and, late, 06:43:20.
 REFUSED = None
 PRICES = {
     # 07:50:00 is free and 08:23:20 pays; with 06:43:20, that and 07:50:00 pay.
@@ -56,22 +58,26 @@ PRICES = {
 # When the taps are sent again, two boardings pay already, whichever tap was refused, and two pay in the end.
 PRICE_AGAIN = 350
 
-# In at station 10 at 07:00:00, out at station 12 at 07:20:00, the day shown, and what is due: a leg from zone 1 to 2, peak, 340
-# pence for operator 1, whose station 10 is. Where one of the taps is refused, the other is alone and costs the maximum fare.
+# In at station 10 at 07:00:00, out at station 12 at 07:20:00, the day shown, and what is due: a leg from zone 1 to 2,
+# peak, 340 pence for operator 1, whose station 10 is. Where one of the taps is refused, the other is alone and costs
+# the maximum fare.
 RAIL = b"TAP 1 1 7 1704697200 10 IN\nTAP 1 2 7 1704698400 12 OUT\nSHOW 7 19730\nDUE 7 19730\n"
 BOTH = "OK 19730 860 860\nOK 19730 340 340\n"
 SHOWN, DUE = "SHOW 7 19730 1 340\nJNY RAIL 10 12 1704697200 340\n", "DUE 7 19730 19730 2 340 1=340\n"
 RAIL_REPLIES = {
     0: BOTH + SHOWN + DUE,
-    1: "NO 90 Memory\nOK 19730 860 860\nSHOW 7 19730 1 860\nJNY LONE 0 12 1704698400 860\nDUE 7 19730 19730 1 860 2=860\n",
-    2: "OK 19730 860 860\nNO 90 Memory\nSHOW 7 19730 1 860\nJNY LONE 10 0 1704697200 860\nDUE 7 19730 19730 1 860 1=860\n",
+    1: "NO 90 Memory\nOK 19730 860 860\n"
+    "SHOW 7 19730 1 860\nJNY LONE 0 12 1704698400 860\nDUE 7 19730 19730 1 860 2=860\n",
+    2: "OK 19730 860 860\nNO 90 Memory\n"
+    "SHOW 7 19730 1 860\nJNY LONE 10 0 1704697200 860\nDUE 7 19730 19730 1 860 1=860\n",
     3: BOTH + "NO 90 Memory\n" + DUE,
     4: BOTH + SHOWN + "NO 90 Memory\n",
 }
 PAGE = "day,kind,from,to,start,fare,band\n19730,RAIL,10,12,07:00:00,340,-\n"
 
-# In at station 10 at 07:00:00; the touch out at station 12 at 07:30:00 filled in, 340 pence; a credit; the Fill withdrawn; the
-# tap taken out; and the day shown. A tap alone costs the maximum fare, and a correction that names nothing is answered 0 0 0.
+# In at station 10 at 07:00:00; the touch out at station 12 at 07:30:00 filled in, 340 pence; a credit; the Fill
+# withdrawn; the tap taken out; and the day shown. A tap alone costs the maximum fare, and a correction that names
+# nothing is answered 0 0 0.
 FIXES = b"""TAP 1 1 7 1704697200 10 IN
 FIX 3 1 7 FILL 1704699000 12 OUT
 FIX 3 2 7 CREDIT 19730 100
@@ -91,17 +97,19 @@ FIXES_REPLIES = {
     6: LONE_IN + FILLED + FILLED + LONE_IN + NOTHING + NO_MEMORY,
 }
 
-# In at station 10 at 07:00:00, and the day closed; out at station 12 at 07:30:00, and closed again, and once more. What was posted
-# for the In alone is given back but for 340 pence. Where a close is refused, the next one posts all of it; where the In is, the Out
-# is alone, and operator 2's; and where the Out is, there is nothing to give back.
+# In at station 10 at 07:00:00, and the day closed; out at station 12 at 07:30:00, and closed again, and once more. What
+# was posted for the In alone is given back but for 340 pence. Where a close is refused, the next one posts all of it;
+# where the In is, the Out is alone, and operator 2's; and where the Out is, there is nothing to give back.
 CLOSES = b"""TAP 1 1 7 1704697200 10 IN
 CLOSE 19730
 TAP 1 2 7 1704699000 12 OUT
 CLOSE 19730
 CLOSE 19730
 """
-CHARGED, REFUNDED = "PAY 7 19730 19730 1 860 860 1=860\nDONE 19730 1\n", "PAY 7 19730 19730 2 340 -520 1=-520\nDONE 19730 1\n"
-CHARGED_LATE, CHARGED_OUT = "PAY 7 19730 19730 2 340 340 1=340\nDONE 19730 1\n", "PAY 7 19730 19730 1 860 860 2=860\nDONE 19730 1\n"
+CHARGED = "PAY 7 19730 19730 1 860 860 1=860\nDONE 19730 1\n"
+REFUNDED = "PAY 7 19730 19730 2 340 -520 1=-520\nDONE 19730 1\n"
+CHARGED_LATE = "PAY 7 19730 19730 2 340 340 1=340\nDONE 19730 1\n"
+CHARGED_OUT = "PAY 7 19730 19730 1 860 860 2=860\nDONE 19730 1\n"
 CLOSES_REPLIES = {
     0: LONE_IN + CHARGED + FILLED + REFUNDED + REFUNDED,
     1: NO_MEMORY + "DONE 19730 0\n" + LONE_OUT + CHARGED_OUT + CHARGED_OUT,
@@ -115,10 +123,11 @@ for answer in NOT_CLOSED:
     CLOSES_REPLIES[f"4 by {by}"] = LONE_IN + CHARGED + FILLED + answer + REFUNDED
     CLOSES_REPLIES[f"5 by {by}"] = LONE_IN + CHARGED + FILLED + REFUNDED + answer
 
-# Two accounts board a bus at 07:00:00, and the day is closed; the boarding of account 8 is taken out, and the day closed again, and
-# once more. What account 8 was charged is given back, all of it by operator 4, whose route 50 is, and account 7's posting stands.
-# Where a boarding is refused, nobody is charged for it, and a Void of it names nothing; where the first close is, there is nothing
-# to give back; and where the Void is, all stands as it was posted. Where the second close is refused, the next one finds all as before.
+# Two accounts board a bus at 07:00:00, and the day is closed; the boarding of account 8 is taken out, and the day
+# closed again, and once more. What account 8 was charged is given back, all of it by operator 4, whose route 50 is, and
+# account 7's posting stands. Where a boarding is refused, nobody is charged for it, and a Void of it names nothing;
+# where the first close is, there is nothing to give back; and where the Void is, all stands as it was posted. Where the
+# second close is refused, the next one finds all as before.
 VOIDS = b"""TAP 1 1 8 1704697200 50 BUS
 TAP 1 1 7 1704697200 50 BUS
 CLOSE 19730
@@ -142,8 +151,8 @@ for answer in NOT_CLOSED:
     VOIDS_REPLIES[f"5 by {by}"] = 2 * BOARDED + BOTH_CHARGED + NOTHING + answer + ONE_GIVEN_BACK
     VOIDS_REPLIES[f"6 by {by}"] = 2 * BOARDED + BOTH_CHARGED + NOTHING + ONE_GIVEN_BACK + answer
 
-# A tap; its number with another instant; no such route; a correction; its number with other content; a close; the tap again; and
-# the day shown. Where memory is wanting, a line that is refused otherwise is answered so too.
+# A tap; its number with another instant; no such route; a correction; its number with other content; a close; the tap
+# again; and the day shown. Where memory is wanting, a line that is refused otherwise is answered so too.
 REFUSED_LINES = b"""TAP 1 1 7 1704697200 50 BUS
 TAP 1 1 7 1704697201 50 BUS
 TAP 1 2 7 1704697200 51 BUS
@@ -155,7 +164,8 @@ SHOW 7 19730
 """
 TAKEN = (
     "OK 19730 175 175\n", "NO 20 Conflict\n", "NO 15 UnknownPlace\n", "OK 0 0 0\n", "NO 22 FixConflict\n",
-    "PAY 7 19730 19730 2 175 175 4=175\nDONE 19730 1\n", "AGAIN 19730 175 175\n", "SHOW 7 19730 1 175\nJNY BUS 50 0 1704697200 175\n",
+    "PAY 7 19730 19730 2 175 175 4=175\nDONE 19730 1\n", "AGAIN 19730 175 175\n",
+    "SHOW 7 19730 1 175\nJNY BUS 50 0 1704697200 175\n",
 )
 # A number whose first line was not taken goes to the next line that has it, and then the first one conflicts.
 TAKEN_INSTEAD = {
@@ -163,9 +173,10 @@ TAKEN_INSTEAD = {
     4: {5: "OK 0 0 0\n"},
 }
 
-# 18 boardings of the Monday, each 1,500 seconds after the one before, and 18 taps of the Tuesday, in at station 10 and out at 12 by
-# turns; a boarding before all of these, and a touch out between an in and its out; a boarding taken out, and let in again; and a
-# touch in filled in. So the lists of what is kept grow, and each kind of late change is made. Then both days are shown.
+# 18 boardings of the Monday, each 1,500 seconds after the one before, and 18 taps of the Tuesday, in at station 10 and
+# out at 12 by turns; a boarding before all of these, and a touch out between an in and its out; a boarding taken out,
+# and let in again; and a touch in filled in. So the lists of what is kept grow, and each kind of late change is made.
+# Then both days are shown.
 MORNING = 1_704_697_200
 MANY_TAPS = [
     *(rules.Tap(MORNING + 1_500 * at, 1, at, 7, 50, "BUS") for at in range(18)),
@@ -181,11 +192,13 @@ SHOWN_DAYS = (19_730, 19_731)
 # The tests that mark where memory may be refused, by their crates.
 MARKED = {
     "pay_tests": (
-        "takes_more_taps_than_the_set_has_places", "keeps_corrections_by_number", "boardings_by_late_taps", "runs_by_late_taps",
+        "takes_more_taps_than_the_set_has_places", "keeps_corrections_by_number", "boardings_by_late_taps",
+        "runs_by_late_taps",
         "a_desk_without_memory", "accounts_in_ascending_order", "bad_archives", "a_turn_without_memory",
     ),
     "pay_ledger_tests": (
-        "charges_and_gives_back", "restores_corrections", "posts_all_or_nothing_without_memory", "makes_all_tables_or_none_without_memory",
+        "charges_and_gives_back", "restores_corrections", "posts_all_or_nothing_without_memory",
+        "makes_all_tables_or_none_without_memory",
         "restores_no_bad_correction", "restores_no_bad_tap", "copies_all_or_nothing_without_memory",
     ),
     
@@ -212,7 +225,8 @@ def refused_replies(refused, answer=NO_MEMORY):
 
 
 def many_replies(refused):
-    """The replies to the many taps and the two days, by the rules, where this line is refused for memory (0: none is)."""
+    """The replies to the many taps and the two days, by the rules, where this line is refused for memory (0: none
+    is)."""
     fares, accounts = loads.FARES["sample.toml"], {}
     lines = [lambda command=command: rules.reply(fares, accounts, command) for command in MANY_TAPS]
     lines += [lambda day=day: "".join(rules.shown(fares, accounts, 7, day)) for day in SHOWN_DAYS]
@@ -232,8 +246,11 @@ def allowed(answers, faults=("90 Memory",)):
 
 
 def allowed_of_fault(line, output, *others):
-    """What a check may come to that ends with this line on standard error, or, if memory is refused, with one of others, each with its output."""
-    return {(1, output, f"farebox: {line}\n"): RIGHT} | {(1, told, f"farebox: {fault}\n"): f"ended with `farebox: {fault}`" for told, fault in others}
+    """What a check may come to that ends with this line on standard error, or, if memory is refused, with one of
+    others, each with its output."""
+    return {(1, output, f"farebox: {line}\n"): RIGHT} | {
+        (1, told, f"farebox: {fault}\n"): f"ended with `farebox: {fault}`" for told, fault in others
+    }
 
 
 def allowed_of_session(answers):
@@ -261,7 +278,9 @@ def sessions():
     memory = "90 Memory"
     late = allowed_of_fault("warning: no holiday after day 19731", COUNTED_TWO, ("", memory), (COUNTED_TWO, memory))
     yield "a fare file with an edition, and its warning", [*CHECK_TWO, "--lint"], b"", late
-    other = allowed_of_fault("other fares on day 19731: rules.bus, days through 19730 agree", "", ("", memory), ("", f"old fares: {memory}"))
+    other = allowed_of_fault(
+        "other fares on day 19731: rules.bus, days through 19730 agree", "", ("", memory), ("", f"old fares: {memory}")
+    )
     yield "a fare file beside an old one", [*CHECK_TWO, "--against", SAMPLE], b"", other
     yield "the statement of a journey", STATEMENT, RAIL, allowed({0: PAGE})
 
@@ -297,8 +316,12 @@ def try_each(allocator, name, words, lines, ends):
 
 
 def try_test(allocator, crate, name):
-    """Fails each allocation between the marks of a test in turn, prints what came of it, and returns how many faults there were."""
-    runner, tests, faults, said = f"{os.path.dirname(os.path.realpath(shutil.which('rt')))}/rattle-test", f"{ROOT}/crates/{crate}/out/{crate}_tests", 0, 0
+    """Fails each allocation between the marks of a test in turn, prints what came of it, and returns how many faults
+    there were."""
+    runner = f"{os.path.dirname(os.path.realpath(shutil.which('rt')))}/rattle-test"
+    tests = f"{ROOT}/crates/{crate}/out/{crate}_tests"
+    faults = 0
+    said = 0
     if not os.path.isfile(tests):
         sys.exit(f"allocations: crates/{crate} has no built tests: run rt ci, or rt test there")
     for number in itertools.count(1):
@@ -306,13 +329,19 @@ def try_test(allocator, crate, name):
         has_failed = b"x" in told
         if status or b"1 passed" not in output.encode() or b"m" in told and not has_failed:
             faults += 1
-            print(f"allocation {number} after a mark of {name}: status {status}, told {told!r}, output {output!r}, errors {errors!r}")
+            print(
+                f"allocation {number} after a mark of {name}: status {status}, told "
+                f"{told!r}, output {output!r}, errors {errors!r}"
+            )
         if not has_failed:
             break
         said += b"m" in told
     if number == 1:
         sys.exit(f"allocations: {name} of {crate} made none that was seen between its marks")
-    print(f"{name} of {crate}: {number - 1} allocations failed, each in a run of its own, and in {said} of them a call said so")
+    print(
+        f"{name} of {crate}: {number - 1} allocations failed, each in a run "
+        f"of its own, and in {said} of them a call said so"
+    )
     if not said:
         print(f"{name} of {crate}: want of memory of our own was not told in any of them")
     return faults + (not said)

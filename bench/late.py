@@ -17,14 +17,19 @@ CRATE = f"{ROOT}/crates/late_taps"
 FARES, PLOT = f"{ROOT}/examples/sample.toml", f"{HERE}/late.svg"
 BOOK, ACCOUNT = "book", "account"
 SHAPES = ("bus", "rail", "void", "chain")
-# How many taps are stored in the end, and how many rounds a run has of the one and of the other: more where a round is short.
-ROUNDS = {128: {BOOK: 2_000, ACCOUNT: 50}, 1_024: {BOOK: 400, ACCOUNT: 5}, 2_048: {BOOK: 200, ACCOUNT: 2}, 16_384: {BOOK: 40, ACCOUNT: 1}}
+# How many taps are stored in the end, and how many rounds a run has of the one and of the other: more where a round is
+# short.
+ROUNDS = {
+    128: {BOOK: 2_000, ACCOUNT: 50}, 1_024: {BOOK: 400, ACCOUNT: 5}, 2_048: {BOOK: 200, ACCOUNT: 2},
+    16_384: {BOOK: 40, ACCOUNT: 1},
+}
 # Corrections are looked through at each command, so there are as many of them at each size.
 VOIDS, CHAINED = 32, 16
 
 
 class Measured(NamedTuple):
-    """The sum of the prices, and of the late commands the most steps of one, the mean of the steps and the nanoseconds of one."""
+    """The sum of the prices, and of the late commands the most steps of one, the mean of the steps and the nanoseconds
+    of one."""
 
     prices: int
     most_steps: int
@@ -44,7 +49,9 @@ def build():
     """Proves and builds the program where it is missing or older than its sources; its one run here is a small one."""
     print("late: bringing the program up to date, which takes many minutes where it has to be proved", file=sys.stderr)
     words = ["rt", "run", "--", BOOK, "bus", "2", "1", "1", FARES]
-    built = subprocess.run(words, cwd=CRATE, stdin=subprocess.DEVNULL, stdout=subprocess.PIPE, stderr=subprocess.STDOUT, text=True)
+    built = subprocess.run(
+        words, cwd=CRATE, stdin=subprocess.DEVNULL, stdout=subprocess.PIPE, stderr=subprocess.STDOUT, text=True
+    )
     if built.returncode:
         sys.exit(f"{built.stdout[-2_000:]}late: the program was not built")
 
@@ -79,11 +86,18 @@ def report(found):
         for size in ROUNDS:
             book, account = found[shape, size, BOOK], found[shape, size, ACCOUNT]
             if book.prices != account.prices:
-                sys.exit(f"late: the prices of {shape} at {size} taps come to {book.prices} by what is kept, and to {account.prices} from scratch")
-            print(f"| {shape} | {size:,} | {book.most_steps:,} | {book.mean_steps:,.1f} | {book.nanoseconds:,.0f} | {account.nanoseconds:,.0f} |")
+                sys.exit(
+                    f"late: the prices of {shape} at {size} taps come to {book.prices} by "
+                    f"what is kept, and to {account.prices} from scratch"
+                )
+            print(
+                f"| {shape} | {size:,} | {book.most_steps:,} | {book.mean_steps:,.1f} | "
+                f"{book.nanoseconds:,.0f} | {account.nanoseconds:,.0f} |"
+            )
 
 
-# What a shape looks like: its colour, dashes and size of dots, so that lines in one place can be told apart; and what it is.
+# What a shape looks like: its colour, dashes and size of dots, so that lines in one place can be told apart; and what
+# it is.
 LOOKS = {
     "bus": ("#0072b2", "none", 4, "a boarding half way between two"),
     "rail": ("#d55e00", "none", 5, "an Out within a pair"),
@@ -103,7 +117,8 @@ def line(points, more):
 
 
 def panel(left, label, values):
-    """The lines of a panel: both axes by logarithms, the values of each shape by size. A value below 1 is drawn at 1."""
+    """The lines of a panel: both axes by logarithms, the values of each shape by size. A value below 1 is drawn at
+    1."""
     logs = {shape: {size: math.log10(max(it, 1)) for size, it in row.items()} for shape, row in values.items()}
     drawn = [it for row in logs.values() for it in row.values()]
     low, high = math.floor(min(drawn)), max(math.ceil(max(drawn)), math.floor(min(drawn)) + 1)
@@ -132,13 +147,26 @@ def panel(left, label, values):
 
 def plot(found):
     """Draws the time and the greatest steps of a book's late commands."""
-    lines = [f'<svg xmlns="http://www.w3.org/2000/svg" viewBox="0 0 {WIDTH} {HEIGHT}" font-family="sans-serif" font-size="13">']
-    lines += [f'<rect width="{WIDTH}" height="{HEIGHT}" fill="white"/>', text(95, 30, "A late command of one account, by what its book keeps", 'font-size="16"')]
+    lines = [
+        f'<svg xmlns="http://www.w3.org/2000/svg" viewBox="0 0 {WIDTH} {HEIGHT}" font-family="sans-serif" '
+        f'font-size="13">'
+    ]
+    lines += [
+        f'<rect width="{WIDTH}" height="{HEIGHT}" fill="white"/>',
+        text(95, 30, "A late command of one account, by what its book keeps", 'font-size="16"'),
+    ]
     for at, (shape, (colour, dashes, _, meaning)) in enumerate(LOOKS.items()):
         x, y = PANELS[at % 2][0], 56 + 20 * (at // 2)
-        lines += [line([(x, y), (x + 26, y)], f'stroke="{colour}" stroke-dasharray="{dashes}" stroke-width="3"'), text(x + 34, y + 4, f"{shape}: {meaning}")]
+        lines += [
+            line([(x, y), (x + 26, y)], f'stroke="{colour}" stroke-dasharray="{dashes}" stroke-width="3"'),
+            text(x + 34, y + 4, f"{shape}: {meaning}"),
+        ]
     for left, label, field in PANELS:
-        lines += panel(left, label, {shape: {size: getattr(found[shape, size, BOOK], field) for size in ROUNDS} for shape in SHAPES})
+        lines += panel(
+            left,
+            label,
+            {shape: {size: getattr(found[shape, size, BOOK], field) for size in ROUNDS} for shape in SHAPES},
+        )
     with open(PLOT, "w", encoding="ascii") as it:
         it.write("\n".join([*lines, "</svg>", ""]))
 

@@ -1,6 +1,7 @@
 #!/usr/bin/env python3
-"""journal: 1,000,000 boardings of 60,000 accounts in one session. How long each reply takes through pipes, since no growth may hold one up,
-and the most memory that the program held beside what it holds after the last reply. See README.md."""
+"""journal: 1,000,000 boardings of 60,000 accounts in one session. How long each reply takes through pipes, since no
+growth may hold one up, and the most memory that the program held beside what it holds after the last reply. See
+README.md."""
 
 import argparse
 import random
@@ -35,7 +36,9 @@ def held_bytes(process):
 def session(program, asked):
     """The seconds of each reply, the most memory that was held, and what is held after the last reply."""
     command = [program, "run", f"{ROOT}/examples/bus.toml", LONDON]
-    with subprocess.Popen(command, stdin=subprocess.PIPE, stdout=subprocess.PIPE, bufsize=0, preexec_fn=on_one_core) as process:
+    with subprocess.Popen(
+        command, stdin=subprocess.PIPE, stdout=subprocess.PIPE, bufsize=0, preexec_fn=on_one_core
+    ) as process:
         took, give, take = [], process.stdin.write, process.stdout.read
         for line in asked:
             began = time.perf_counter()
@@ -61,12 +64,20 @@ def main():
     took, peak, held = session(words.program or PROGRAM, lines(words.boardings, words.accounts, words.seed))
     ranked = sorted(took)
     slowest = max(range(len(took)), key=took.__getitem__)
-    print(f"{len(took):,} boardings of {words.accounts:,} accounts, each sent once the reply to the one before has come")
-    print(f"a reply through pipes: middle {1e6 * statistics.median(took):,.1f} us, 99.9 of 100 within {1e6 * ranked[-len(took) // 1000]:,.1f} us,"
-          f" the slowest {1e3 * ranked[-1]:,.2f} ms (number {slowest:,}), the second slowest {1e3 * ranked[-2]:,.2f} ms")
+    print(
+        f"{len(took):,} boardings of {words.accounts:,} accounts, each sent once the reply to the one before has come"
+    )
+    print(
+        f"a reply through pipes: middle {1e6 * statistics.median(took):,.1f} us, 99.9 of 100 within "
+        f"{1e6 * ranked[-len(took) // 1000]:,.1f} us,"
+        f" the slowest {1e3 * ranked[-1]:,.2f} ms (number {slowest:,}), the second slowest {1e3 * ranked[-2]:,.2f} ms"
+    )
     met = "met" if peak <= AIM * held else "MISSED"
-    print(f"memory: {peak / 2**20:,.1f} MiB at most, {held / 2**20:,.1f} MiB after the last reply, {peak / held:.3f} times that (aim: at most {AIM}) {met};"
-          f" {peak / len(took):,.0f} bytes a boarding")
+    print(
+        f"memory: {peak / 2**20:,.1f} MiB at most, {held / 2**20:,.1f} MiB after the last reply, {peak / held:.3f} "
+        f"times that (aim: at most {AIM}) {met};"
+        f" {peak / len(took):,.0f} bytes a boarding"
+    )
 
 
 if __name__ == "__main__":

@@ -1,4 +1,5 @@
-"""The lines that clients send: taps, corrections, questions, and lines that are refused; and how a reply to each may begin."""
+"""The lines that clients send: taps, corrections, questions, and lines that are refused; and how a reply to each may
+begin."""
 
 from typing import NamedTuple
 

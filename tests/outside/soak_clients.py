@@ -74,7 +74,8 @@ class Connection:
 
     def __init__(self, client, way, peer):
         self.client, self.way, self.peer = client, way, peer
-        # Where what is said on it begins, how many replies were heard, and how many are still to be heard before it may be lost.
+        # Where what is said on it begins, how many replies were heard, and how many are still to be heard before it may
+        # be lost.
         self.first, self.heard, self.needed = len(client.said), 0, 0
         self.cut_line = b""
         self.replies = grouped(self.lines())
@@ -130,10 +131,13 @@ class Connection:
         return True
 
     def is_to_be_lost(self):
-        return self.way.is_lost and self.heard >= self.way.heard and not (self.client.service.plan.shape.fills and self.needed)
+        return self.way.is_lost and self.heard >= self.way.heard and not (
+            self.client.service.plan.shape.fills and self.needed
+        )
 
     def speak(self):
-        """Sends lines and hears replies until nothing is to be sent, or the connection is to be lost. Whether the replies came."""
+        """Sends lines and hears replies until nothing is to be sent, or the connection is to be lost. Whether the
+        replies came."""
         while True:
             self.send_ahead()
             if self.is_to_be_lost() or self.heard == self.sent or not self.way.is_lost and self.is_all_sent():
@@ -219,7 +223,10 @@ class Client:
         """Has a line sent again that is refused for now."""
         may_be = self.service.may_lack if reply == NO_MEMORY else self.service.may_be_late
         if not (line.is_put and may_be):
-            raise Fault(f"{line.text!r} was answered {reply!r}, though {'nothing is wanting' if line.is_put else 'no shard answers it'}")
+            raise Fault(
+                f"{line.text!r} was answered {reply!r}, though "
+                f"{'nothing is wanting' if line.is_put else 'no shard answers it'}"
+            )
         self.tries[line] += 1
         if self.tries[line] > MOST_TRIES:
             raise Fault(f"{line.text!r} was refused {MOST_TRIES:,} times, at last by {reply!r}")
@@ -232,7 +239,10 @@ class Client:
         """One connection. What has no reply after it is to be sent again."""
         self.connections += 1
         if self.connections >= self.service.plan.sessions:
-            raise Fault(f"no connection is left for {len(self.left):,} lines; for {self.count['without memory']:,} there was no memory")
+            raise Fault(
+                f"no connection is left for {len(self.left):,} lines; for "
+                f"{self.count['without memory']:,} there was no memory"
+            )
         try:
             opened = connected(self.port)
         except OSError as error:

@@ -1,6 +1,6 @@
 #!/usr/bin/env python3
-"""journals: taps a second of a session without a journal, with one, and with one that is synced at each line; and how long a journal of 1,000,000
-lines is replayed, beside a session that reads the same lines. See README.md."""
+"""journals: taps a second of a session without a journal, with one, and with one that is synced at each line; and how
+long a journal of 1,000,000 lines is replayed, beside a session that reads the same lines. See README.md."""
 
 import argparse
 import contextlib
@@ -49,12 +49,18 @@ def kept_seconds(command, lines, more):
 def report(name, took, count):
     """Prints a row, and gives the lines a second of the middle round."""
     middle = statistics.median(took)
-    print(f"{name:<28} {count:>9,} {count / middle:>14,.0f} {1e6 * middle / count:>10.2f} {min(took):>12.3f} s {max(took):>12.3f} s")
+    print(
+        f"{name:<28} {count:>9,} {count / middle:>14,.0f} {1e6 * middle / count:>10.2f} {min(took):>12.3f} s "
+        f"{max(took):>12.3f} s"
+    )
     return count / middle
 
 
 def head(title):
-    print(f"\n{title:<28} {'lines':>9} {'lines a second':>14} {'us a line':>10} {'fastest round':>14} {'slowest round':>14}")
+    print(
+        f"\n{title:<28} {'lines':>9} {'lines a second':>14} "
+        f"{'us a line':>10} {'fastest round':>14} {'slowest round':>14}"
+    )
 
 
 def measure_sessions(run, words):
@@ -79,7 +85,8 @@ def measure_sessions(run, words):
 
 
 def measure_replays(program, run, words):
-    """A session that reads many lines, and a replay of them and the start of a session that has them as its journal, in turn."""
+    """A session that reads many lines, and a replay of them and the start of a session that has them as its journal, in
+    turn."""
     lines = f"{OUT}/journal-lines"
     write_lines(lines, DAY.commands(words.seed, words.replayed))
     took = {name: [] for name in ("no journal", "replay", "--journal, and no line")}

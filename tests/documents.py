@@ -1,16 +1,16 @@
 #!/usr/bin/env python3
 """Checks that the documents say of this repository's files what is so.
 
-    tests/documents            # a second or two; status 1 where a check finds a fault
-    tests/documents --write    # draws the graph of docs/CRATES.md anew from crates.txt, and then checks
+    tests/documents.py            # a second or two; status 1 where a check finds a fault
+    tests/documents.py --write    # draws the graph of docs/CRATES.md anew from crates.txt, and then checks
 
-It checks that the graph of crates is that of crates.txt, without the edges that others imply, and that each crate stands in one
-layer of docs/ARCHITECTURE.md, above those that it stands on; that the sample fare files are the
-same text everywhere, in the examples, in the sources and for the stored session, and that the one differs from the other in its
-caps alone; that relative links lead to a file, and to a heading of it where they name one; that the files, crates, calls and other
-names of the repository that the documents give in backticks are there; that the toolchain that they name is the one that is here,
-by its logic; and that the texts that the wrong bodies of crates/NAME/refused and crates/NAME/planted change stand once. It needs
-Python 3.8 or later, and the command rt in PATH.
+It checks that the graph of crates is that of crates.txt, without the edges that others imply, and that each crate
+stands in one layer of docs/ARCHITECTURE.md, above those that it stands on; that the sample fare files are the same text
+everywhere, in the examples, in the sources and for the stored session, and that the one differs from the other in its
+caps alone; that relative links lead to a file, and to a heading of it where they name one; that the files, crates,
+calls and other names of the repository that the documents give in backticks are there; that the toolchain that they
+name is the one that is here, by its logic; and that the texts that the wrong bodies of crates/NAME/refused and
+crates/NAME/planted change stand once. It needs Python 3.8 or later, and the command rt in PATH.
 """
 
 import argparse
@@ -23,10 +23,13 @@ import shutil
 import subprocess
 import sys
 
-ROOT = os.path.dirname(os.path.dirname(os.path.realpath(__file__)))
+# Nothing is kept beside the sources.
+sys.dont_write_bytecode = True
+from support.repository import ROOT
+
 ARCHITECTURE = "docs/ARCHITECTURE.md"
 GRAPH = "docs/CRATES.md"
-BEGIN, END = "<!-- The graph is drawn by tests/documents --write. -->", "<!-- The end of the graph. -->"
+BEGIN, END = "<!-- The graph is drawn by tests/documents.py --write. -->", "<!-- The end of the graph. -->"
 DOCUMENTS = [
     *("README.md", "SECURITY.md", "CHANGELOG.md", "CONTRIBUTING.md", "examples/README.md", "bench/README.md"),
     *sorted(f"docs/{name}" for name in os.listdir(f"{ROOT}/docs") if name.endswith(".md")),
@@ -54,7 +57,10 @@ def without_implied(below):
     reached = {}
     for name, those in below.items():
         reached[name] = {it for direct in those for it in (direct, *reached.get(direct, ()))}
-    return {name: [it for it in those if it not in below or not any(it in reached.get(other, ()) for other in those)] for name, those in below.items()}
+    return {
+        name: [it for it in those if it not in below or not any(it in reached.get(other, ()) for other in those)]
+        for name, those in below.items()
+    }
 
 
 def edges(below):
@@ -62,7 +68,8 @@ def edges(below):
 
 
 def graph(below):
-    """The graph in characters. Each crate has a row and a column; a dot says that the row's crate stands on the column's."""
+    """The graph in characters. Each crate has a row and a column; a dot says that the row's crate stands on the
+    column's."""
     rows = list(reversed(below))
     width, column = max(map(len, rows)) + 1, {name: at for at, name in enumerate(rows)}
     # The last column and the first row that a crate's line reaches.
@@ -112,7 +119,7 @@ def crate_graph():
     for name in sorted(folders ^ set(below)):
         yield f"{name} is {'not in crates.txt' if name in folders else 'not a folder of crates/'}"
     if block(below) not in read(GRAPH):
-        yield f"{GRAPH}: the graph is not that of crates.txt; tests/documents --write draws it anew"
+        yield f"{GRAPH}: the graph is not that of crates.txt; tests/documents.py --write draws it anew"
 
 
 def layers():
@@ -134,7 +141,9 @@ def layers():
 
 def string_constant(path, name):
     """The value of a constant of text in a source, plain or raw; None where it is not there."""
-    found = re.search(rf'\bconst {name}: &(?:\'static )?str\s*=\s*(?:r(#*)"(.*?)"\1|"((?:[^"\\]|\\.)*)")\s*;', read(path), re.S)
+    found = re.search(
+        rf'\bconst {name}: &(?:\'static )?str\s*=\s*(?:r(#*)"(.*?)"\1|"((?:[^"\\]|\\.)*)")\s*;', read(path), re.S
+    )
     if not found:
         return None
     if found[2] is not None:
@@ -177,7 +186,8 @@ def samples():
     if "\nband = " in bus or "\nband = " not in capped:
         yield "examples/sample.toml has to have bands, and examples/bus.toml none"
     elif without_caps(capped) != without_caps(bus):
-        yield f"examples/sample.toml without its bands is another text than examples/bus.toml, {difference(without_caps(capped), without_caps(bus))}"
+        where = difference(without_caps(capped), without_caps(bus))
+        yield f"examples/sample.toml without its bands is another text than examples/bus.toml, {where}"
 
 
 @functools.lru_cache
@@ -244,7 +254,9 @@ def files():
                 path = path.split("/out/")[0].rstrip("/").replace("NAME", "*")
                 bases = (ROOT, f"{ROOT}/crates", os.path.join(ROOT, os.path.dirname(document)))
                 # A source, a definition or a proof may be named without its folder.
-                anywhere = path.endswith((".rt", ".antt")) and any(it.endswith(f"/{path}") for it in paths_below(f"{ROOT}/crates"))
+                anywhere = path.endswith((".rt", ".antt")) and any(
+                    it.endswith(f"/{path}") for it in paths_below(f"{ROOT}/crates")
+                )
                 if not anywhere and not any(glob.glob(os.path.join(base, path)) for base in bases):
                     yield f"{document}: {named} is not there"
 
@@ -316,7 +328,9 @@ def of_crates():
 
 def told_by_rt(word):
     """What rt prints for this word, or None if rt is not in PATH."""
-    return subprocess.run(["rt", word], stdout=subprocess.PIPE, text=True).stdout.strip() if shutil.which("rt") else None
+    return subprocess.run(
+        ["rt", word], stdout=subprocess.PIPE, text=True
+    ).stdout.strip() if shutil.which("rt") else None
 
 
 def words_of(paths):
@@ -402,7 +416,11 @@ def main():
         print(f"{check.__doc__}: {f'{len(faults)} faults' if faults else 'yes'}")
         for fault in faults:
             print(f"  {fault}")
-    print(f"documents: {len(CHECKS)} checks, {count} faults" if count else f"documents: {len(CHECKS)} checks, each as it has to be")
+    print(
+        f"documents: {len(CHECKS)} checks, {count} faults"
+        if count
+        else f"documents: {len(CHECKS)} checks, each as it has to be"
+    )
     return 1 if count else 0
 
 

@@ -1,11 +1,11 @@
 #!/usr/bin/env python3
 """Runs the built program as its users do, and judges the bytes of its output and its errors, and its status.
 
-    tests/program                    # every theme: a minute or two, and minutes more if the program has to be built
-    tests/program quotes serve       # these themes alone
-    tests/program -k late_taps       # the tests alone whose names have this in them
-    tests/program -f -v              # ends at the first failure; prints the name of each test
-    tests/program --list [THEME..]   # what the themes are, or the tests of these
+    tests/program.py                    # every theme: a minute or two, and minutes more if the program has to be built
+    tests/program.py quotes serve       # these themes alone
+    tests/program.py -k late_taps       # the tests alone whose names have this in them
+    tests/program.py -f -v              # ends at the first failure; prints the name of each test
+    tests/program.py --list [THEME..]   # what the themes are, or the tests of these
 
 A theme is a module of tests/themes with test cases of `unittest`, and tests/support has what they share. So one test
 runs by `python3 -m unittest themes.editions.Editions.test_late_taps` too, in the folder tests. What a run has to come

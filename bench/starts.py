@@ -1,6 +1,6 @@
 #!/usr/bin/env python3
-"""starts: how long a session takes to open its ledger and compare it with its journal, and the memory, beside one that has the journal alone.
-See README.md."""
+"""starts: how long a session takes to open its ledger and compare it with its journal, and the memory, beside one that
+has the journal alone. See README.md."""
 
 import argparse
 import os
@@ -19,11 +19,15 @@ SEVEN, SUNDAY = 1_704_697_200, 19_736
 
 
 def write_journal(accounts, each):
-    """So many boardings of each account, one after another, in the order in which they are made: within six days of one week."""
+    """So many boardings of each account, one after another, in the order in which they are made: within six days of one
+    week."""
     taps = accounts * each
     with open(JOURNAL, "w", encoding="ascii") as it:
         for number in range(taps):
-            it.write(f"TAP {1 + number // accounts} {number} {1 + number % accounts} {SEVEN + number * 6 * 86_400 // taps} 50 BUS\n")
+            it.write(
+                f"TAP {1 + number // accounts} {number} {1 + number % accounts} "
+                f"{SEVEN + number * 6 * 86_400 // taps} 50 BUS\n"
+            )
 
 
 def run(words, lines=b""):
@@ -60,7 +64,10 @@ def main():
     write_journal(words.accounts, words.each)
     took, _ = run([*session, "--ledger", LEDGER], f"CLOSE {SUNDAY}\n".encode())
     taps = words.accounts * words.each
-    print(f"{taps:,} boardings of {words.accounts:,} accounts; the first close, with the start, took {took:.1f} s; each session on one core, medians of {words.rounds}")
+    print(
+        f"{taps:,} boardings of {words.accounts:,} accounts; the first close, with the start, took {took:.1f} s; each "
+        f"session on one core, medians of {words.rounds}"
+    )
     # The same fares by another text, which are compared with those that are kept beside the journal.
     other = f"{OUT}/start-fares.toml"
     with open(FARES, encoding="utf-8") as fares, open(other, "w", encoding="utf-8") as it:
@@ -70,11 +77,16 @@ def main():
         alone.append(run(session))
         compared.append(run([*session, "--ledger", LEDGER]))
         others.append(run([*session[:2], other, *session[3:]]))
-    (first, memory), (second, more), (third, _) = ([statistics.median(column) for column in zip(*rows)] for rows in (alone, compared, others))
+    (first, memory), (second, more), (third, _) = (
+        [statistics.median(column) for column in zip(*rows)] for rows in (alone, compared, others)
+    )
     print(f"the journal alone              {first:8.2f} s {memory / 2**20:8.0f} MiB")
     print(f"with the ledger compared       {second:8.2f} s {more / 2**20:8.0f} MiB")
     print(f"with other fares compared      {third:8.2f} s")
-    print(f"opened and compared            {second - first:8.2f} s, {(second - first) / first:.2f} of the time of replaying; memory {more / memory:.2f} of that of the accounts")
+    print(
+        f"opened and compared            {second - first:8.2f} s, {(second - first) / first:.2f} of the time of "
+        f"replaying; memory {more / memory:.2f} of that of the accounts"
+    )
 
 
 if __name__ == "__main__":
