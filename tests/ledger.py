@@ -1,5 +1,5 @@
 #!/usr/bin/env python3
-"""Reads a ledger in a file with the system's own `sqlite3`, which has no part in what wrote it.
+"""Reads a ledger in a file with an SQLite that has no part in what wrote it.
 
     tests/ledger.py               # some seconds, after rt ci or rt run, which build the program
 
@@ -7,13 +7,13 @@ A session of the program closes a day after each tap of a journey, over a ledger
 that file is whole, for all of its rows, and for all that docs/FILES.md says an accountant may ask. What it has to
 answer was worked out by hand: an entry is charged the maximum, 860, with its exit the journey costs 340, so 520 are
 given back, and all of it is operator 1's. Another answer is printed beside what was expected, and ends this script with
-status 1. Where there is no `sqlite3`, or one before 3.37, which does not read STRICT tables, it says so and compares
-nothing. Two of the questions must have no answer: once an amount in the file is changed they have one.
+status 1. Two of the questions must have no answer: once an amount in the file is changed they have one. It is the
+system's own `sqlite3` that answers; where there is none from 3.37 on, which reads STRICT tables, it is Python's. Where
+that is older too, this script fails.
 """
 
 import os
 import re
-import shutil
 import subprocess
 import sys
 import tempfile
@@ -21,6 +21,7 @@ import tempfile
 # Nothing is kept beside the sources.
 sys.dont_write_bytecode = True
 from support.repository import PROGRAM, ROOT, RUN_SAMPLE
+from support.sqlite import asker
 
 # A journey that is closed after each of its taps.
 LINES = "TAP 1 1 7 1704697200 10 IN\nCLOSE 19730\nTAP 1 2 7 1704699000 12 OUT\nCLOSE 19730\n"
@@ -55,11 +56,6 @@ def questions():
         return re.findall(r"```sql\n(.*?)```", page.read(), re.S)
 
 
-def reads_strict_tables(sqlite3):
-    said = subprocess.run([sqlite3, "--version"], stdout=subprocess.PIPE, text=True, check=True).stdout
-    return tuple(int(part) for part in said.split()[0].split(".")[:2]) >= (3, 37)
-
-
 def write_ledger(folder):
     """The path of the file that a session leaves in this folder, or None where it does not reply as it should."""
     file = f"{folder}/ledger.db"
@@ -73,25 +69,22 @@ def write_ledger(folder):
     return file
 
 
-def wrong(sqlite3, file, asked):
+def wrong(ask, file, asked):
     """How many of these pairs of a question and its answer are wrong, each of which is printed."""
     count = 0
     for sql, wanted in asked:
-        ran = subprocess.run(
-            [sqlite3, "-batch", file, sql], stdout=subprocess.PIPE, stderr=subprocess.STDOUT, text=True
-        )
-        found = ran.stdout.rstrip("\n")
-        if ran.returncode or found != wanted:
+        found = ask(file, sql)
+        if found != wanted:
             count += 1
             print(f"tests/ledger.py: {sql.strip()}\n  came to\n{found}\n  and not to\n{wanted}")
     return count
 
 
 def main():
-    sqlite3 = shutil.which("sqlite3")
-    if not sqlite3 or not reads_strict_tables(sqlite3):
-        print("tests/ledger.py: no sqlite3 from 3.37 on is here, so the file of a ledger was not read by it")
-        return 0
+    here = asker()
+    if not here:
+        print("tests/ledger.py: neither the system nor Python has an sqlite3 from 3.37 on, so no ledger can be read")
+        return 1
     if not os.path.isfile(PROGRAM):
         print("tests/ledger.py: crates/farebox has no built program: run rt ci, or rt run there")
         return 1
@@ -105,11 +98,10 @@ def main():
         file = write_ledger(folder)
         if not file:
             return 1
-        failed = wrong(sqlite3, file, questions_of_whole) + wrong(sqlite3, file, questions_of_changed)
-    print(
-        f"tests/ledger.py: {len(questions_of_whole) + len(questions_of_changed)} answers of sqlite3, {failed} of them "
-        f"wrong"
-    )
+        name, ask = here
+        failed = wrong(ask, file, questions_of_whole) + wrong(ask, file, questions_of_changed)
+    count = len(questions_of_whole) + len(questions_of_changed)
+    print(f"tests/ledger.py: {count} answers of {name}, {failed} of them wrong")
     return 1 if failed else 0
 
 

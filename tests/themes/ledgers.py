@@ -28,6 +28,7 @@ from support.running import (
     FARES, MISSING, RUN, End, answers, boardings, but_for_closes, bytes_of, edited, end_of, fault, heard, in_lines,
     limited_to, missing, run, run_file, session, started, written,
 )
+from support.sqlite import system_sqlite3
 from support.statements import rows_of_statement
 from support.theme import Theme
 
@@ -297,9 +298,9 @@ ROWS_COPIED = rows(*COPIED, FIRST_SHARE, SECOND_SHARE, FIRST_TAP, SECOND_TAP)
 
 def by_sqlite3(path, *statements):
     """Has the system's `sqlite3` write a database, or Python's own where there is none that can."""
-    if not shutil.which("sqlite3"):
+    if not system_sqlite3():
         return others_database(path, *statements)
-    subprocess.run(["sqlite3", "-batch", path], input=";\n".join(statements) + ";\n", text=True, check=True)
+    subprocess.run([system_sqlite3(), "-batch", path], input=";\n".join(statements) + ";\n", text=True, check=True)
     return path
 
 
