@@ -9,8 +9,9 @@ stands in one layer of docs/ARCHITECTURE.md, above those that it stands on; that
 everywhere, in the examples, in the sources and for the stored session, and that the one differs from the other in its
 caps alone; that relative links lead to a file, and to a heading of it where they name one; that the files, crates,
 calls and other names of the repository that the documents give in backticks are there; that the toolchain that they
-name is the one that is here, by its logic; and that the texts that the wrong bodies of crates/NAME/refused and
-crates/NAME/planted change stand once. It needs Python 3.8 or later, and the command rt in PATH.
+name is the one that is here, by its logic; that the texts that the wrong bodies of crates/NAME/refused and
+crates/NAME/planted change stand once; and that no theme of tests/program.py imports another, as CONTRIBUTING says. It
+needs Python 3.8 or later, and the command rt in PATH.
 """
 
 import argparse
@@ -401,7 +402,15 @@ def planted():
             yield f"{path} changes nothing, or is no .edit"
 
 
-CHECKS = [crate_graph, layers, samples, links, files, crates, of_crates, calls, names, toolchain, planted]
+def themes():
+    """themes of tests/program.py import what is shared, and no other theme"""
+    for path in sorted(glob.glob(f"{ROOT}/tests/themes/*.py") + glob.glob(f"{ROOT}/tests/support/*.py")):
+        path = os.path.relpath(path, ROOT)
+        for module in re.findall(r"^ *(?:from|import) (themes\b\S*)", read(path), re.M):
+            yield f"{path} imports {module}"
+
+
+CHECKS = [crate_graph, layers, samples, links, files, crates, of_crates, calls, names, toolchain, planted, themes]
 
 
 def main():
