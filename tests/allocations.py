@@ -248,9 +248,9 @@ def allowed(answers, faults=("90 Memory",)):
 def allowed_of_fault(line, output, *others):
     """What a check may come to that ends with this line on standard error, or, if memory is refused, with one of
     others, each with its output."""
-    return {(1, output, f"farebox: {line}\n"): RIGHT} | {
-        (1, told, f"farebox: {fault}\n"): f"ended with `farebox: {fault}`" for told, fault in others
-    }
+    ends = {(1, output, f"farebox: {line}\n"): RIGHT}
+    ends.update({(1, told, f"farebox: {fault}\n"): f"ended with `farebox: {fault}`" for told, fault in others})
+    return ends
 
 
 def allowed_of_session(answers):

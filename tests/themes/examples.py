@@ -10,9 +10,8 @@ from support.running import RUN, End, answers, heard, read, run, run_file, start
 from support.theme import Theme
 
 # The examples that are not run with examples/bus.toml.
-GIVEN = {
-    name: RUN_SAMPLE for name in ("capped-week.txt", "closes.txt", "corrections.txt", "statement.txt")
-} | {"two-fares.txt": RUN_TWO}
+GIVEN = dict.fromkeys(("capped-week.txt", "closes.txt", "corrections.txt", "statement.txt"), RUN_SAMPLE)
+GIVEN["two-fares.txt"] = RUN_TWO
 # Those of a session that is killed, and of the one that goes on from its journal.
 KILLED, GOES_ON = "killed.txt", "goes-on.txt"
 

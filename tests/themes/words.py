@@ -478,7 +478,7 @@ NO_FARES = fault("cannot read fares")
 
 def with_numbers(between=" ", **numbers):
     """The words of `serve` without a fare file, and other numbers for some of its options."""
-    given = {name[2:]: number for name, number in zip(OPTIONS[::2], OPTIONS[1::2])} | numbers
+    given = {**{name[2:]: number for name, number in zip(OPTIONS[::2], OPTIONS[1::2])}, **numbers}
     options = ([f"--{name}", number] if between == " " else [f"--{name}={number}"] for name, number in given.items())
     return ["serve", MISSING, LONDON, *(word for option in options for word in option)]
 
