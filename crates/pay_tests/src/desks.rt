@@ -4,9 +4,8 @@ ghost use Rattle.std.specs.Prelude.{◌≡◌};
 ghost use Rattle.pay_shard.specs.Words.{IsForShards};
 
 use crate::given::{MAY_BE_REFUSED, MONDAY, WAS_REFUSED, expect_same, sample, tap_at, tell};
-use crate::shards::{day_price, due, quoted};
+use crate::shards::day_price;
 use pay_book::Book;
-use pay_money::Pence;
 use pay_rules::{Kind, Tap};
 use pay_shard::{Asked, Command, Desk, LocalDesk, Reply};
 use pay_tables::Editions;
@@ -97,31 +96,4 @@ fn a_desk_without_memory(rt: HostRuntime) {
     for account in 1..41 {
         expect_boarded(&rt, &mut desk, account);
     }
-}
-
-/// Puts a boarding to a desk with no accounts, and asks what is due and for the quotes.
-fn expect_answers<R: Abort>(rt: &R, desk: &mut LocalDesk<Book>) {
-    expect_same(rt, desk.shards(), 1);
-    let bus = tap_at(rt, 1, 25_200, 50, Kind::Bus);
-    let price = reply(rt, desk, Asked::Tap(bus));
-    expect_same(rt, day_price(&price), Some(175));
-    let asked = Asked::Due {
-        account: 7,
-        day: MONDAY,
-    };
-    let owed = reply(rt, desk, asked);
-    expect_same(rt, due(&owed), Some(Pence::new(175)));
-    let all = Asked::Quotes {
-        day: MONDAY,
-        shard: 0,
-        of: 1,
-    };
-    let batch = reply(rt, desk, all);
-    expect_same(rt, quoted(&batch), Some((1, 7)));
-    expect_same(rt, desk.shard().journal().len(), 3);
-}
-
-#[test]
-fn a_desk_answers(rt: HostRuntime) {
-    expect_answers(&rt, &mut empty_desk(&rt, sample(&rt)));
 }

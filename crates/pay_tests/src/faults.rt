@@ -13,7 +13,7 @@ use std::fmt::Display;
 use std::process::Abort;
 
 /// Each of these faults prints the text beside it.
-fn expect_printed<R: Abort + AllocGlobal, F: Display>(rt: &R, rows: &[(F, &str)]) {
+pub fn expect_printed<R: Abort + AllocGlobal, F: Display>(rt: &R, rows: &[(F, &str)]) {
     for (fault, text) in rows {
         let printed = fault.to_string(rt.alloc()).expect(rt, "memory for a text");
         expect_same(rt, printed.as_str(), *text);

@@ -1,12 +1,15 @@
 //! What tests are given: the sample fare file, and taps of Monday, 2024-01-08, when London's clocks show UTC.
 
 use crate::sample::SAMPLE_FARES;
+use jiff::tz::TimeZone;
 use pay_day::Moment;
 use pay_editions::read_editions;
+use pay_money::limits::OPERATORS;
 use pay_rules::{Kind, Tap, Touch};
 use pay_tables::Editions;
 use std::fmt::Debug;
 use std::process::Abort;
+use std::sync::Arc;
 
 /// So what was found is what is wanted. One function has the only comparison, since what a comparison costs to be
 /// proved is much, and a call of this one little.
@@ -41,10 +44,27 @@ pub fn tell<R: AllocGlobal>(rt: &R, bytes: usize) {
     let _ = Vec::<u8>::with_capacity(rt.alloc(), bytes);
 }
 
+/// What the first four operators have, where the others have nothing.
+pub fn first_four(one: u64, two: u64, three: u64, four: u64) -> [u64; OPERATORS] {
+    let mut all = [0; OPERATORS];
+    all[0] = one;
+    all[1] = two;
+    all[2] = three;
+    all[3] = four;
+    all
+}
+
 /// The sample fare file, whose bands are that of the buses (525 a day, 2470 a week), of zones 1 to 2
 /// (890, 4470) and of zones 1 to 3 (1050, 5250).
 pub fn sample<R: Abort + AllocGlobal>(rt: &R) -> Editions {
     read_editions(rt.alloc(), SAMPLE_FARES).expect(rt, "the sample")
+}
+
+/// The same for several, and the clocks of London.
+pub fn sample_in_london<'a, R: Abort + AllocGlobal>(rt: &R) -> (Arc<Editions>, TimeZone<'a>) {
+    let editions = Arc::new(rt.alloc(), sample(rt)).expect(rt, "memory");
+    let zone = TimeZone::posix("GMT0BST,M3.5.0/1,M10.5.0").expect(rt, "a rule");
+    (editions, zone)
 }
 
 /// A tap of account 7 by reader 1, at a second of the Monday.

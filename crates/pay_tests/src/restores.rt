@@ -1,7 +1,6 @@
 //! Accounts restored from the rows of an archive, by the sample fare file, whose route is 50.
 
 use crate::given::{MAY_BE_REFUSED, MAY_NOT_BE, WAS_REFUSED, expect_list, sample, tell};
-use crate::ledger_rows::TAPPED;
 use pay_book::Book;
 use pay_restore::restored;
 use pay_rows::{FixRow, TapRow};
@@ -10,11 +9,15 @@ use pay_tables::Editions;
 use std::alloc::AllocError;
 use std::process::Abort;
 
-/// A boarding.
+/// A boarding by reader 1, at seven on the Monday.
 const BOARDED: TapRow = TapRow {
+    reader: 1,
+    seq: 2,
+    utc: 1_704_697_200,
+    day: 19_730,
+    second: 25_200,
     place: 50,
     kind: 2,
-    ..TAPPED
 };
 
 /// A Void of the boarding by staff 3.
@@ -86,42 +89,4 @@ fn accounts_in_ascending_order(rt: HostRuntime) {
         Ok(&[(7, 2, 2), (8, 0, 1), (9, 1, 0)]),
     );
     expect_list(&rt, counts(&rt, &[], &[]), Ok(&[]));
-}
-
-/// These rows are no archive.
-fn expect_bad<R: Abort + AllocGlobal>(rt: &R, taps: &[(i64, TapRow)], fixes: &[(i64, FixRow)]) {
-    expect_list(rt, counts(rt, taps, fixes), Err(PostFault::BadArchive));
-}
-
-#[test]
-fn bad_archives(rt: HostRuntime) {
-    for (account, row) in [
-        (0, BOARDED),
-        (4_294_967_296, BOARDED),
-        (7, TapRow { kind: 3, ..BOARDED }),
-        (
-            7,
-            TapRow {
-                place: 51,
-                ..BOARDED
-            },
-        ),
-        (
-            7,
-            TapRow {
-                place: 10,
-                ..BOARDED
-            },
-        ),
-    ] {
-        expect_bad(&rt, &[(account, row)], &[]);
-    }
-    let other = TapRow {
-        utc: 1_704_697_201,
-        ..BOARDED
-    };
-    expect_bad(&rt, &[(7, BOARDED), (7, other)], &[]);
-    expect_bad(&rt, &[], &[(0, VOIDED)]);
-    expect_bad(&rt, &[], &[(7, FixRow { e: 1, ..VOIDED })]);
-    expect_bad(&rt, &[], &[(7, VOIDED), (7, FixRow { b: 3, ..VOIDED })]);
 }

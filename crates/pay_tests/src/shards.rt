@@ -1,14 +1,11 @@
-//! What shards answer, by the sample fare file: prices, refusals, what is due and quoted, and the same replies over
-//! any number of shards.
+//! The same replies over any number of shards, by the sample fare file.
 
 ghost use Rattle.std.specs.Prelude.{◌≤◌, ◌<◌};
 
-use crate::given::{MONDAY, expect_same, sample, tap_at};
-use crate::shares::first_four;
-use pay_account::Account;
+use crate::given::{MONDAY, expect_same, first_four, sample, tap_at};
 use pay_book::Book;
 use pay_money::Pence;
-use pay_rules::{Fares, Fix, Kind, Priced, Quote, Tap, What};
+use pay_rules::{Fares, Kind, Priced, Quote, Tap};
 use pay_shard::{Asked, Batch, Command, Entry, Reply, Shard, ShardRefusal};
 use pay_tables::Editions;
 use std::process::Abort;
@@ -68,12 +65,6 @@ fn quote_of(reply: &Reply) -> Option<&Quote> {
     }
 }
 
-/// What is due by a reply.
-pub fn due(reply: &Reply) -> Option<Pence> {
-    let quote = quote_of(reply)?;
-    Some(quote.due())
-}
-
 /// The batch that is a reply.
 fn batch_of(reply: &Reply) -> Option<&Batch> {
     match reply {
@@ -82,78 +73,9 @@ fn batch_of(reply: &Reply) -> Option<&Batch> {
     }
 }
 
-/// How many accounts a reply quotes, and the first of them.
-pub fn quoted(reply: &Reply) -> Option<(usize, u32)> {
-    let batch = batch_of(reply)?;
-    let first = batch.quotes().first()?;
-    Some((batch.quotes().len(), first.account()))
-}
-
 /// A tap of an account.
 fn tap_of(account: u32, tap: Tap) -> Asked {
     Asked::Tap(Tap { account, ..tap })
-}
-
-/// Asks, and compares the price of the day that is told.
-fn expect_price<R: Abort, F: Fares>(rt: &R, shard: &mut Shard<F>, asked: Asked, pence: u64) {
-    let told = reply(rt, shard, asked);
-    expect_same(rt, day_price(&told), Some(pence));
-}
-
-/// Sends taps and a correction to a shard without accounts.
-fn expect_answers<R: Abort + AllocGlobal, F: Fares>(rt: &R) {
-    let shard: &mut Shard<F> = &mut empty_shard(rt, sample(rt), 3);
-    let first = tap_at(rt, 1, 25_200, 50, Kind::Bus);
-    expect_price(rt, shard, tap_of(8, first), 175);
-    let second = tap_at(rt, 1, 25_200, 50, Kind::Bus);
-    expect_price(rt, shard, tap_of(7, second), 175);
-    let other = tap_at(rt, 1, 25_200, 10, Kind::In);
-    let refused = reply(rt, shard, tap_of(7, other));
-    expect_same(rt, refusal(&refused), Some(ShardRefusal::Conflict));
-    let void = Asked::Fix(Fix {
-        account: 7,
-        staff: 3,
-        seq: 1,
-        what: What::Void(1, 1),
-    });
-    expect_price(rt, shard, void, 0);
-    expect_same(rt, shard.journal().len(), 4);
-    expect_same(rt, shard.account(8).is_some(), true);
-    expect_same(rt, shard.account(9).is_none(), true);
-}
-
-#[test]
-fn a_shard_answers(rt: HostRuntime) {
-    expect_answers::<HostRuntime, Account>(&rt);
-    expect_answers::<HostRuntime, Book>(&rt);
-}
-
-/// Sends two taps to a shard without accounts, and compares what it quotes.
-fn expect_quoted<R: Abort + AllocGlobal, F: Fares>(rt: &R) {
-    let shard: &mut Shard<F> = &mut empty_shard(rt, sample(rt), 0);
-    let first = tap_at(rt, 1, 25_200, 50, Kind::Bus);
-    expect_price(rt, shard, tap_of(8, first), 175);
-    let second = tap_at(rt, 1, 25_200, 50, Kind::Bus);
-    expect_price(rt, shard, tap_of(7, second), 175);
-    let asked = Asked::Due {
-        account: 8,
-        day: MONDAY,
-    };
-    let owed = reply(rt, shard, asked);
-    expect_same(rt, due(&owed), Some(Pence::new(175)));
-    let all = Asked::Quotes {
-        day: MONDAY,
-        shard: 0,
-        of: 1,
-    };
-    let batch = reply(rt, shard, all);
-    expect_same(rt, quoted(&batch), Some((2, 7)));
-}
-
-#[test]
-fn a_shard_quotes(rt: HostRuntime) {
-    expect_quoted::<HostRuntime, Account>(&rt);
-    expect_quoted::<HostRuntime, Book>(&rt);
 }
 
 /// Three journeys by rail: of each tap its number, its second of the Monday, its place and its kind, and the price of the

@@ -79,42 +79,10 @@ pub const BY_RAIL: &str = "day,kind,from,to,start,fare,band
 19730,LONE,10,0,12:00:00,860,-
 ";
 
-/// The first band is that of the buses, the third that of zones 1 to 3, and there is no fourth.
-fn others() -> [Line; 4] {
-    [
-        line(LineKind::Bus, 50, 0, 28_800, 175, Some(0)),
-        line(LineKind::Same, 14, 14, 0, 0, Some(2)),
-        line(LineKind::Bus, 50, 0, 25_509, 175, None),
-        line(LineKind::Lone, 0, 11, 86_399, 860, Some(3)),
-    ]
-}
-
-const OTHERS: &str = "day,kind,from,to,start,fare,band
-19730,BUS,50,0,08:00:00,175,bus
-19730,SAME,14,14,00:00:00,0,1-3
-19730,BUS,50,0,07:05:09,175,-
-19730,LONE,0,11,23:59:59,860,-
-";
-
 /// So this is the statement of these journeys.
 pub fn expect_statement<R: Abort + AllocGlobal>(rt: &R, lines: &[Line], wanted: &str) {
     let held = write_csv(&sample(rt), lines, Vec::new(rt.alloc())).expect(rt, "a statement");
     expect_same(rt, held.as_slice(), wanted.as_bytes());
-}
-
-#[test]
-fn writes_journeys(rt: HostRuntime) {
-    expect_statement(&rt, &[], "day,kind,from,to,start,fare,band\n");
-    expect_statement(&rt, &by_rail(), BY_RAIL);
-    expect_statement(&rt, &others(), OTHERS);
-}
-
-#[test]
-fn flushes_the_writer(rt: HostRuntime) {
-    let writer = Limited::new(rt.alloc(), BY_RAIL.len(), 3);
-    let writer = write_csv(&sample(&rt), &by_rail(), writer).expect(&rt, "a statement");
-    expect_same(&rt, writer.held.as_slice(), BY_RAIL.as_bytes());
-    expect_same(&rt, writer.flushes, 2);
 }
 
 /// What comes of a writer with so much room, that may be flushed so often.

@@ -6,36 +6,6 @@ use pay_wire::*;
 use std::io::ErrorKind;
 use std::process::Abort;
 
-#[test]
-fn reads_commands(rt: HostRuntime) {
-    let tap = SpelledTap {
-        reader: 1,
-        seq: 2,
-        account: 7,
-        utc: 1_704_697_200,
-        place: 50,
-        kind: Kind::Bus,
-    };
-    expect_same(
-        &rt,
-        read_command(b"TAP 1 2 7 1704697200 50 BUS"),
-        Some(SpelledCommand::Tap(tap)),
-    );
-    let show = SpelledCommand::Show {
-        account: 7,
-        day: 19_730,
-    };
-    expect_same(&rt, read_command(b"SHOW 7 19730"), Some(show));
-    let due = SpelledCommand::Due {
-        account: 7,
-        day: 19_730,
-    };
-    expect_same(&rt, read_command(b"DUE 7 19730"), Some(due));
-    let close = SpelledCommand::Close { day: 19_730 };
-    expect_same(&rt, read_command(b"CLOSE 19730"), Some(close));
-    expect_same(&rt, read_command(b"QUIT"), Some(SpelledCommand::Quit));
-}
-
 fn line(kind: LineKind, from: u16, to: u16, utc: u64, fare: u64) -> Line {
     Line {
         day: MONDAY,
@@ -68,57 +38,6 @@ fn shown<R: Abort + AllocGlobal>(rt: &R) -> SpelledReply {
 
 const WRITTEN: &str =
     "SHOW 7 19730 2 515\nJNY BUS 50 0 1704697200 175\nJNY RAIL 10 12 1704704400 340\n";
-
-fn priced(again: bool) -> SpelledReply {
-    SpelledReply::Priced(Priced {
-        again,
-        day: MONDAY,
-        day_price: Pence::new(175),
-        week_price: Pence::new(350),
-    })
-}
-
-/// Sends a reply to a vector, and to a writer that counts its flushes.
-fn expect_sent<R: Abort + AllocGlobal>(rt: &R, reply: &SpelledReply, wanted: &str) {
-    let mut held = Vec::new(rt.alloc());
-    expect_same(rt, send(&mut held, reply), Ok(()));
-    expect_same(rt, held.as_slice(), wanted.as_bytes());
-    let mut writer = Scripted::new(rt.alloc(), &[]);
-    expect_same(rt, send(&mut writer, reply), Ok(()));
-    expect_same(
-        rt,
-        (writer.held.as_slice(), writer.flushes),
-        (wanted.as_bytes(), 1),
-    );
-}
-
-#[test]
-fn sends_replies(rt: HostRuntime) {
-    expect_sent(&rt, &priced(false), "OK 19730 175 350\n");
-    expect_sent(&rt, &priced(true), "AGAIN 19730 175 350\n");
-    expect_sent(
-        &rt,
-        &SpelledReply::No(Refusal::LongLine),
-        "NO 51 LongLine\n",
-    );
-    expect_sent(&rt, &SpelledReply::Bye, "BYE\n");
-}
-
-#[test]
-fn sends_a_shown_day(rt: HostRuntime) {
-    expect_sent(&rt, &shown(&rt), WRITTEN);
-}
-
-#[test]
-fn sends_a_line(rt: HostRuntime) {
-    let mut writer = Scripted::new(rt.alloc(), &[Ok(1)]);
-    expect_same(&rt, send_line(&mut writer, b"it\n"), Ok(()));
-    expect_same(
-        &rt,
-        (writer.held.as_slice(), writer.flushes),
-        (b"it\n".as_slice(), 1),
-    );
-}
 
 /// Sends the shown day to a writer, and compares how that ends, in how many calls, and how many bytes are taken.
 fn expect_end<R: Abort + AllocGlobal>(

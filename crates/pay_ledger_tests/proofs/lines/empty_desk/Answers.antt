@@ -1,7 +1,0 @@
-use Rattle.std.specs.List.{IsDistinct}
-use Rattle.pay_ledger_tests.proofs.lines.empty_desk.Goals as goal
-
--- no account has the number of another
-pub new-requires-2-clause-distinct : goal.new-requires-2-clause-distinct
-unfolding IsDistinct
-new-requires-2-clause-distinct g c = rw c.new.ensures.items tt
