@@ -11,9 +11,9 @@ import sys
 from typing import NamedTuple
 
 sys.dont_write_bytecode = True
-from programs import HERE, ROOT, on_one_core
+from programs import HERE, ROOT, built, on_one_core
 
-CRATE = f"{ROOT}/crates/late_taps"
+STANDS_ON = "pay_day pay_tables pay_rules pay_editions pay_account pay_book"
 FARES, PLOT = f"{ROOT}/examples/sample.toml", f"{HERE}/late.svg"
 BOOK, ACCOUNT = "book", "account"
 SHAPES = ("bus", "rail", "void", "chain")
@@ -43,17 +43,6 @@ def counts(shape, size):
         return size - 1, CHAINED
     late = VOIDS if shape == "void" else size // 4
     return size - late, late
-
-
-def build():
-    """Proves and builds the program where it is missing or older than its sources; its one run here is a small one."""
-    print("late: bringing the program up to date, which takes many minutes where it has to be proved", file=sys.stderr)
-    words = ["rt", "run", "--", BOOK, "bus", "2", "1", "1", FARES]
-    built = subprocess.run(
-        words, cwd=CRATE, stdin=subprocess.DEVNULL, stdout=subprocess.PIPE, stderr=subprocess.STDOUT, text=True
-    )
-    if built.returncode:
-        sys.exit(f"{built.stdout[-2_000:]}late: the program was not built")
 
 
 def measure(program, kind, shape, size, rounds):
@@ -177,9 +166,8 @@ def main():
     words.add_argument("--runs", type=int, default=5, help="how often a book is measured; the fastest run counts")
     words.add_argument("--fewer", type=int, default=1, help="divides the rounds of each run, to try the script")
     given = words.parse_args()
-    if not given.program:
-        build()
-    found = measure_all(given.program or f"{CRATE}/out/late_taps", max(1, given.runs), max(1, given.fewer))
+    program = given.program or built("late_taps", STANDS_ON, [BOOK, "bus", "2", "1", "1", FARES])
+    found = measure_all(program, max(1, given.runs), max(1, given.fewer))
     report(found)
     plot(found)
 

@@ -1,19 +1,15 @@
 #!/usr/bin/env python3
 """Times restoring the accounts of a ledger in a file. See README.md.
 
-The program in `restore.txt` only restores, as `farebox rebuild` does before it prints lines. A program that loads SQL
-takes ten minutes of each run of the checks: so it is no crate of the repository, and is proved and built in a copy of
-it.
+The program only restores, as `farebox rebuild` does before it prints lines.
 
 Status 1: another number of accounts, taps or corrections was restored than the file has, or the program was not built
 or failed.
 """
 
 import argparse
-import glob
 import os
 import random
-import shutil
 import sqlite3
 import statistics
 import subprocess
@@ -22,13 +18,12 @@ import tempfile
 from typing import NamedTuple
 
 sys.dont_write_bytecode = True
-from programs import HERE, ROOT, on_one_core
+from programs import ROOT, built, on_one_core
 from oracle.loads import MONDAY, trip_taps
 from oracle.rules import service_day
 
-# Outside the repository, in which the toolchain takes one list of crates alone.
-COPY, FARES = f"{tempfile.gettempdir()}/farebox-restore", f"{ROOT}/examples/sample.toml"
-CRATE, LINE = f"{COPY}/crates/restore", "restore: pay_rules pay_editions pay_book pay_ledger sqlite\n"
+FARES = f"{ROOT}/examples/sample.toml"
+STANDS_ON = "pay_rules pay_editions pay_book pay_ledger sqlite"
 TAPS_EACH, ONE_IN = 4, 10
 KINDS = ("IN", "OUT", "BUS")
 CREDIT, PENCE = 2, 100
@@ -59,11 +54,8 @@ class Took(NamedTuple):
 
 def row(tap):
     # In winter London's clocks show UTC.
-    return tap.account, tap.reader, tap.seq, tap.utc, service_day(
-        tap.utc
-    ), tap.utc % 86_400, tap.place, KINDS.index(
-        tap.kind
-    )
+    stamp = (tap.utc, service_day(tap.utc), tap.utc % 86_400)
+    return (tap.account, tap.reader, tap.seq, *stamp, tap.place, KINDS.index(tap.kind))
 
 
 def write(path, accounts, seed):
@@ -82,34 +74,10 @@ def write(path, accounts, seed):
     return len(taps), len(fixes)
 
 
-def build():
-    """Proves and builds the program in a copy of the tree, where that is missing or older than the sources."""
-    print(
-        "restore: bringing the program up to date, which takes many minutes where it has to be proved", file=sys.stderr
-    )
-    tracked = subprocess.run(
-        ["git", "ls-files", "crates"], cwd=ROOT, capture_output=True, text=True, check=True
-    ).stdout.split()
-    # What earlier runs proved is kept, and nothing else.
-    for folder in glob.glob(f"{COPY}/crates/*/*"):
-        if os.path.basename(folder) != "out":
-            shutil.rmtree(folder) if os.path.isdir(folder) else os.remove(folder)
-    for name in tracked:
-        os.makedirs(os.path.dirname(f"{COPY}/{name}"), exist_ok=True)
-        shutil.copyfile(f"{ROOT}/{name}", f"{COPY}/{name}")
-    os.makedirs(f"{CRATE}/src", exist_ok=True)
-    shutil.copyfile(f"{HERE}/restore.txt", f"{CRATE}/src/main.rt")
-    with open(f"{ROOT}/crates.txt", encoding="utf-8") as listed, open(
-        f"{COPY}/crates.txt", "w", encoding="utf-8"
-    ) as copied:
-        copied.write(listed.read() + LINE)
+def built_program():
+    """The program, whose one run where it is built is over an empty ledger."""
     with tempfile.TemporaryDirectory() as folder:
-        words = ["rt", "run", "--", FARES, f"{folder}/ledger.db"]
-        built = subprocess.run(
-            words, cwd=CRATE, stdin=subprocess.DEVNULL, stdout=subprocess.PIPE, stderr=subprocess.STDOUT, text=True
-        )
-    if built.returncode:
-        sys.exit(f"{built.stdout[-2_000:]}restore: the program was not built")
+        return built("restore", STANDS_ON, [FARES, f"{folder}/ledger.db"])
 
 
 def restore(program, path, wanted):
@@ -134,9 +102,7 @@ def main():
     words.add_argument("--rounds", type=int, default=5)
     words.add_argument("--program", help="a program to measure, in the place of the built one")
     words = words.parse_args()
-    if not words.program:
-        build()
-    program = words.program or f"{CRATE}/out/restore"
+    program = words.program or built_program()
     print(f"{words.rounds} rounds on one core; medians\n")
     print("| Accounts | Taps | Corrections | Restored in | Taps and corrections a second | The program's peak |")
     print("|---|---|---|---|---|---|")

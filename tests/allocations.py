@@ -189,20 +189,14 @@ MANY_TAPS = [
 ]
 SHOWN_DAYS = (19_730, 19_731)
 
-# The tests that mark where memory may be refused, by their crates.
-MARKED = {
-    "pay_tests": (
-        "takes_more_taps_than_the_set_has_places", "keeps_corrections_by_number", "boardings_by_late_taps",
-        "runs_by_late_taps",
-        "a_desk_without_memory", "accounts_in_ascending_order", "bad_archives", "a_turn_without_memory",
-    ),
-    "pay_ledger_tests": (
-        "charges_and_gives_back", "restores_corrections", "posts_all_or_nothing_without_memory",
-        "makes_all_tables_or_none_without_memory",
-        "restores_no_bad_correction", "restores_no_bad_tap", "copies_all_or_nothing_without_memory",
-    ),
-    
-}
+# The tests of pay_tests that mark where memory may be refused.
+MARKED = (
+    "takes_more_taps_than_the_set_has_places", "keeps_corrections_by_number", "boardings_by_late_taps",
+    "runs_by_late_taps", "a_desk_without_memory", "accounts_in_ascending_order", "a_turn_without_memory",
+    "charges_and_gives_back", "restores_corrections", "posts_all_or_nothing_without_memory",
+    "makes_all_tables_or_none_without_memory", "restores_no_bad_correction", "restores_no_bad_tap",
+    "copies_all_or_nothing_without_memory",
+)
 
 
 def bus_replies(refused):
@@ -315,15 +309,14 @@ def try_each(allocator, name, words, lines, ends):
     return faults
 
 
-def try_test(allocator, crate, name):
+def try_test(allocator, name):
     """Fails each allocation between the marks of a test in turn, prints what came of it, and returns how many faults
     there were."""
     runner = f"{os.path.dirname(os.path.realpath(shutil.which('rt')))}/rattle-test"
-    tests = f"{ROOT}/crates/{crate}/out/{crate}_tests"
-    faults = 0
-    said = 0
+    tests = f"{ROOT}/crates/pay_tests/out/pay_tests_tests"
+    faults = said = 0
     if not os.path.isfile(tests):
-        sys.exit(f"allocations: crates/{crate} has no built tests: run rt ci, or rt test there")
+        sys.exit("allocations: crates/pay_tests has no built tests: run rt ci, or rt test there")
     for number in itertools.count(1):
         (status, output, errors), told = run(allocator, [runner, "--filter", name, tests], number, MARKED="1")
         has_failed = b"x" in told
@@ -337,13 +330,10 @@ def try_test(allocator, crate, name):
             break
         said += b"m" in told
     if number == 1:
-        sys.exit(f"allocations: {name} of {crate} made none that was seen between its marks")
-    print(
-        f"{name} of {crate}: {number - 1} allocations failed, each in a run "
-        f"of its own, and in {said} of them a call said so"
-    )
+        sys.exit(f"allocations: the test {name} made none that was seen between its marks")
+    print(f"{name}: {number - 1} allocations failed, each in a run of its own, and in {said} of them a call said so")
     if not said:
-        print(f"{name} of {crate}: want of memory of our own was not told in any of them")
+        print(f"{name}: want of memory of our own was not told in any of them")
     return faults + (not said)
 
 
@@ -352,7 +342,7 @@ def main():
         build()
         allocator = preloaded(folder)
         faults = sum(try_each(allocator, *session) for session in sessions())
-        faults += sum(try_test(allocator, crate, name) for crate, names in MARKED.items() for name in names)
+        faults += sum(try_test(allocator, name) for name in MARKED)
     return 1 if faults else 0
 
 
