@@ -229,6 +229,14 @@ class OtherJournals(Theme):
                 "UPDATE shares2 SET amount = 351" if "351" in change else "SELECT 1",
             )
             self.check(f"a posting of {name}", run(with_ledger(changed, other), lines), otherwise)
+        # Rows that are no postings: of an operator whom there is not, of too much, and of what is no number.
+        for name, *changes in (
+            ("operator 17", "UPDATE shares2 SET operator = 17"),
+            ("too much", "UPDATE postings2 SET amount = 4000000001"),
+            ("no number", *AMOUNT_AS_TEXT),
+        ):
+            changed = others_database(shutil.copy(path, os.path.join(self.folder, "changed")), *changes)
+            self.check(f"a posting of {name}", run(with_ledger(changed, other), lines), fault("45 BadArchive"))
 
     def test_lost_lines(self):
         """A ledger beside a journal that has lost one line: the first account that differs is named by it."""
@@ -270,6 +278,15 @@ class OtherJournals(Theme):
                 self.check(f"session {number} of draw {seed}", came, End(0, wanted, left=kept.rows()))
             self.check(f"the journal of draw {seed}", answers(bytes_of(journal)), answers(kept.lines))
 
+
+# A table of postings that takes any text as an amount, and has one.
+AMOUNT_AS_TEXT = (
+    "CREATE TABLE before AS SELECT * FROM postings2",
+    "DROP TABLE postings2",
+    "CREATE TABLE postings2 (id INTEGER PRIMARY KEY, account, week, through, version, due, amount, edition)",
+    "INSERT INTO postings2 SELECT id, account, week, through, version, due, 'much', edition FROM before",
+    "DROP TABLE before",
+)
 
 # The tables of version 1, and its rows after the first two sessions of above; their numbers are not the first ones.
 VERSION_1 = (
