@@ -6,6 +6,7 @@ pub mod Gated
 pub mod Going
 pub mod Numbers
 pub mod Openings
+pub mod Ordered
 pub mod Owned
 pub mod Rows
 pub mod Same

@@ -6,4 +6,5 @@ pub mod Turns
 pub mod Gates
 pub mod Ends
 pub mod Openings
+pub mod Laws
 pub mod Words
