@@ -14,7 +14,9 @@ import tempfile
 from oracle import loads, rules
 from support.preloads import preloaded
 from support.repository import LONDON, SAMPLE
-from support.running import MISSING, MONDAY, SEVEN, WEEK_DAYS, answers, closing, fault, heard, opened_pipe, run
+from support.running import (
+    MISSING, MONDAY, SEVEN, TIME_TO_REPLY, WEEK_DAYS, answers, closing, fault, heard, opened_pipe, run,
+)
 from support.serving import (
     HOST, boarding, break_off, closed, come_and_go, connected, ended, failed, free_ports, listening, paid, rest_of,
     serving, side_by_side, talk, talk_ahead, words_of,
@@ -24,6 +26,13 @@ from support.theme import Theme
 A_BOARDING = "OK 19730 175 175\n"
 
 ACCOUNTS, LANES, SHARDS, LINES = 300, 4, 4, 12_000
+
+
+def connecting(host, port):
+    """How the system answers who connects to an address."""
+    with socket.socket() as it:
+        it.settimeout(TIME_TO_REPLY)
+        return answers(os.strerror(it.connect_ex((host, port))).encode())
 
 
 class Sessions(Theme):
@@ -62,6 +71,16 @@ class Sessions(Theme):
                 ended(ran, said),
                 closed(port, 1, f"{paid(7)}DONE {MONDAY} 1\n".encode()),
             )
+
+    def test_another_address(self):
+        """A service is at 127.0.0.1 alone: at another address of the same host, on each of its ports, nobody
+        listens."""
+        with serving(2, 1, 1) as (ran, port, said):
+            for lane in (port, port + 1):
+                refused = answers(b"Connection refused")
+                self.check(f"127.0.0.2, port {lane - port + 1} of 2", connecting("127.0.0.2", lane), refused)
+                self.check("a session there", answers(talk(lane, b"QUIT\n")), answers(b"BYE\n"))
+            self.check("how it ends", ended(ran, said), closed(port, 2, f"DONE {MONDAY} 0\n".encode()))
 
     def test_replies_that_leave(self):
         """The reply to a line comes though only half of the next has come, and the replies to lines that come together
