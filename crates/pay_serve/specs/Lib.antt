@@ -1,3 +1,4 @@
+pub mod Addresses
 pub mod Causes
 pub mod Closes
 pub mod Journals
