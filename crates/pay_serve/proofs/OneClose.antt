@@ -1,5 +1,6 @@
 -- A close over the last lane of an office is the close of one machine.
-use Rattle.std.proofs.Common.{◌≡◌, inl, inr, ℕ, zero, suc, ◌+◌, ◌<◌, ◌≤◌, ◌==◌, eqb, Bool, true, false, cond, if◌then◌else◌, List, [], ◌∷◌, ◌++◌, All, map, length, get_or, Option, Some, None, refl, sym, ap, ◌∙◌, subst, arith, eq-eqb}
+use Rattle.std.proofs.Common.{◌≡◌, inl, inr, ℕ, zero, suc, ◌+◌, ◌<◌, ◌≤◌, ◌==◌, eqb, Bool, true, false, cond, if◌then◌else◌, List, [], ◌∷◌, ◌++◌, All, map, length, get_or, slice_get, Option, Some, None, refl, sym, ap, ◌∙◌, subst, arith, eq-eqb}
+use Rattle.std.proofs.lemmas.Bool.{eqb-true}
 use Rattle.std.specs.Prelude.{◌⊎◌, IfSome, ⊤}
 use Rattle.std.specs.FinMap.{empty}
 use Rattle.std.specs.List.{AllZip, find, range_with_len}
@@ -8,7 +9,7 @@ use mathlib.Core.List.{IsPrefix}
 use Rattle.pay_tables.specs.Words.{FareEditions}
 use Rattle.pay_mailbox.specs.Words.{SenderParts, of}
 use Rattle.pay_rules.specs.State.{State}
-use Rattle.pay_shard.specs.Words.{replay, batch, items_of, IsAskedOf, AreAskedOf}
+use Rattle.pay_shard.specs.Words.{replay, batch, items_of, IsAskedOf, AreAskedOf, NothingIsLost}
 use Rattle.pay_shard.specs.Runs.{answer_at, answers_from}
 use Rattle.pay_shard.specs.Machine.{step, marked_step, item_step}
 use Rattle.pay_shard.specs.declared.asked.Asked.{Asked}
@@ -24,7 +25,7 @@ use Rattle.std.proofs.lemmas.List.{length-map}
 use Rattle.pay_office.specs.Words.{answer_to}
 use Rattle.pay_till.specs.Words.{AreQuotes, gives_quotes, brings_quotes, IsAnswerTo, AreAnswered, Taken}
 use Rattle.pay_close.specs.Words.{AreBrought, IsWhole, Brings, AreOfShards, ShardsCloseAsMerge}
-use Rattle.pay_serve.specs.Machines.{AreFronts, IsOneClose, IsNewOffice, IsOver, IsOverAsOne}
+use Rattle.pay_serve.specs.Machines.{AreFronts, IsOneClose, IsAskedAfter, AreAskedAfter, IsOneCloseOf, IsNewOffice, IsOver, IsOverAsOne, ClosesAreOne}
 use Rattle.pay_serve.specs.Lanes.{AreAllWith}
 use Rattle.pay_serve.proofs.Begun.{of_last}
 
@@ -75,31 +76,42 @@ module _ {X : Type 0} where
 
 -- ---- an answer to a lane's item
 
--- an answer of a shard is that to an item at some place of its journal, after what stands before it
-record Answers (editions : FareEditions) (state : State) (items : List Item) (a : Answer) : Type 0 where
+-- an answer of a shard is that to an item of a lane at some place of its journal, after what stands before it
+record Answers (lane : ℕ) (editions : FareEditions) (state : State) (items : List Item) (a : Answer) : Type 0 where
   front : List Item
   item : Item
   back : List Item
   parts : front ++ item ∷ back ≡ items
+  own : item.entry.lane ≡ lane
+  ticket : item.entry.ticket ≡ a.ticket
   command : item.entry.command ≡ a.command
   reply : (item_step editions (replay editions state front) item).reply ≡ a.reply
 
-answers_one : (shard lane place : ℕ) (editions : FareEditions) (state : State) (items : List Item) (a : Answer) → Has (at_lane lane items (answers_from shard place editions state items)) a → Answers editions state items a
+answers_one : (shard lane place : ℕ) (editions : FareEditions) (state : State) (items : List Item) (a : Answer) → Has (at_lane lane items (answers_from shard place editions state items)) a → Answers lane editions state items a
 answers_one shard lane place editions state [] a has = absurd has
-answers_one shard lane place editions state (item ∷ items) a has = by (eqb item.entry.lane lane) (answers_one shard lane (place + 1) editions (item_step editions state item).after items a) has
+answers_one shard lane place editions state (item ∷ items) a has = by (eqb item.entry.lane lane) refl (answers_one shard lane (place + 1) editions (item_step editions state item).after items a) has
   where
-    later : Answers editions (item_step editions state item).after items a → Answers editions state (item ∷ items) a
-    later is = record { front = item ∷ is.front; item = is.item; back = is.back; parts = ap (λ l. item ∷ l) is.parts; command = is.command; reply = is.reply }
+    later : Answers lane editions (item_step editions state item).after items a → Answers lane editions state (item ∷ items) a
+    later is = record { front = item ∷ is.front; item = is.item; back = is.back; parts = ap (λ l. item ∷ l) is.parts; own = is.own; ticket = is.ticket; command = is.command; reply = is.reply }
 
-    here : answer_at shard place editions state item ≡ a → Answers editions state (item ∷ items) a
-    here same = record { front = []; item = item; back = items; parts = refl; command = ap (λ (x : Answer). x.command) same; reply = ap (λ (x : Answer). x.reply) same }
+    here : eqb item.entry.lane lane ≡ true → answer_at shard place editions state item ≡ a → Answers lane editions state (item ∷ items) a
+    here its same = record {
+      front = [];
+      item = item;
+      back = items;
+      parts = refl;
+      own = eqb-true item.entry.lane lane its;
+      ticket = ap (λ (x : Answer). x.ticket) same;
+      command = ap (λ (x : Answer). x.command) same;
+      reply = ap (λ (x : Answer). x.reply) same;
+    }
 
-    by : (b : Bool) → (Has (at_lane lane items (answers_from shard (place + 1) editions (item_step editions state item).after items)) a → Answers editions (item_step editions state item).after items a)
+    by : (b : Bool) → eqb item.entry.lane lane ≡ b → (Has (at_lane lane items (answers_from shard (place + 1) editions (item_step editions state item).after items)) a → Answers lane editions (item_step editions state item).after items a)
         → Has (if b then answer_at shard place editions state item ∷ at_lane lane items (answers_from shard (place + 1) editions (item_step editions state item).after items) else at_lane lane items (answers_from shard (place + 1) editions (item_step editions state item).after items)) a
-        → Answers editions state (item ∷ items) a
-    by true rest (inl same) = here same
-    by true rest (inr more) = later (rest more)
-    by false rest more = later (rest more)
+        → Answers lane editions state (item ∷ items) a
+    by true its rest (inl same) = here its same
+    by true its rest (inr more) = later (rest more)
+    by false its rest more = later (rest more)
 
 -- an item that asks for the quotes of a day, and was answered by quotes
 quoted : (editions : FareEditions) (state : State) (refused : Bool) (command : Asked) (day shard of : ℕ) (reply : Reply) → command ≡ asked.Quotes day shard of
@@ -155,21 +167,22 @@ module _ (fares : FareEditions) (office workers : List WorkerParts) (l : LanePar
   base_at k less = (AllZip-get_or IsSameWorker office workers k d d same (subst (λ n. k < n) (sym as_many) less)).base ∙ new.bases k d (subst (λ n. k < n) (sym as_many) less)
 
   -- an answer that the lane took is to an item in the journal of its shard
-  answer_of : (a : Answer) → Has l.answers.got a → (a.shard < length workers) × Answers fares empty (at a.shard).shard.journal a
+  answer_of : (a : Answer) → Has l.answers.got a → (a.shard < length workers) × Answers l.number fares empty (at a.shard).shard.journal a
   answer_of a has =
       let less : a.shard < length workers = subst (λ n. a.shard < n) many (of_one (λ (x : Answer). x.shard < length l.shards) l.answers.got a own.taken has) in
       (less, by (at a.shard) (number_at a.shard less) (tables_at a.shard less) (base_at a.shard less) (answered a.shard d less))
     where
-      by : (w : WorkerParts) → w.shard.number ≡ a.shard → w.shard.editions ≡ fares → w.shard.base ≡ empty → IsAnswered l w → Answers fares empty w.shard.journal a
+      by : (w : WorkerParts) → w.shard.number ≡ a.shard → w.shard.editions ≡ fares → w.shard.base ≡ empty → IsAnswered l w → Answers l.number fares empty w.shard.journal a
       by w number editions base is =
           let stands = in_whole (of by_shard w.shard.number l.answers.got) (answers_for l.number w.shard) a is (chosen_in by_shard w.shard.number l.answers.got a (sym number) has) in
           let found = answers_one w.shard.number l.number 0 w.shard.editions w.shard.base w.shard.journal a stands in
-          subst (λ b. Answers fares b w.shard.journal a) base (subst (λ t. Answers t w.shard.base w.shard.journal a) editions found)
+          subst (λ b. Answers l.number fares b w.shard.journal a) base (subst (λ t. Answers l.number t w.shard.base w.shard.journal a) editions found)
 
   -- a shard gave its quotes after a front of its journal
   record HasBrought (k : ℕ) (t : Taken) : Type 0 where
     front : List Item
     first : IsPrefix front (at k).shard.journal
+    asked : IsAskedAfter front l.number (at k) t
     brings : Brings (batch fares (replay fares empty front) day k shards) t.answer
 
   abbrev transcript : ℕ → Option Answer
@@ -187,6 +200,9 @@ module _ (fares : FareEditions) (office workers : List WorkerParts) (l : LanePar
       record {
         front = found.front;
         first = subst (λ n. IsPrefix found.front (at n).shard.journal) (sym named) (found.item ∷ found.back, found.parts);
+        asked =
+            subst (λ n. IsAskedAfter found.front l.number (at n) t) (sym named)
+            (record { item = found.item; later = found.back; journal = sym found.parts; own = found.own; ticket = found.ticket ∙ its.1; command = found.command ∙ its.2 });
         brings = subst (λ p. Brings (batch fares (replay fares empty found.front) day k shards) p) is
             (quoted fares (replay fares empty found.front) found.item.refused_memory found.item.entry.command day k shards a.reply command found.reply gives);
       }
@@ -214,6 +230,18 @@ module _ (fares : FareEditions) (office workers : List WorkerParts) (l : LanePar
   are_fronts front k [] each = tt
   are_fronts front k (w ∷ ws) each = (each 0 k (omega arith) (omega arith), are_fronts front (suc k) ws (λ n m less is. each (suc n) m (omega (arith, less)) (omega (arith, is))))
 
+  asked_of : (k n m : ℕ) (ts : List Taken) (all : AllBrought k ts) (e : Taken) → n < length ts → m ≡ k + n → IsAskedAfter (front_at k n ts all) l.number (at m) (get_or ts n e)
+  asked_of k n m [] all e less is = absurd (omega (arith, less))
+  asked_of k zero m (t ∷ ts) all e less is = subst (λ j. IsAskedAfter all.0.front l.number (at j) t) (omega (arith, is)) all.0.asked
+  asked_of k (suc n) m (t ∷ ts) all e less is = asked_of (suc k) n m ts all.1 e (omega (arith, less)) (omega (arith, is))
+
+  are_asked : (front : ℕ → List Item) (k : ℕ) (ws : List WorkerParts) (ts : List Taken) → length ts ≡ length ws
+      → ((n m : ℕ) (e : Taken) → n < length ws → m ≡ k + n → IsAskedAfter (front m) l.number (get_or ws n d) (get_or ts n e)) → AreAskedAfter front l.number k ws ts
+  are_asked front k [] ts long each = tt
+  are_asked front k (w ∷ ws) [] long each = cc
+  are_asked front k (w ∷ ws) (t ∷ ts) long each =
+      (each 0 k t (omega arith) (omega arith), are_asked front (suc k) ws ts (omega (arith, long)) (λ n m e less is. each (suc n) m e (omega (arith, less)) (omega (arith, is))))
+
   of_shards : (each : ℕ → State) (k : ℕ) (ts : List Taken) (all : AllBrought k ts) → ((n m : ℕ) → n < length ts → m ≡ k + n → each m ≡ replay fares empty (front_at k n ts all)) → AreOfShards fares each day shards k ts
   of_shards each k [] all are = tt
   of_shards each k (t ∷ ts) all are = (
@@ -221,18 +249,26 @@ module _ (fares : FareEditions) (office workers : List WorkerParts) (l : LanePar
     of_shards each (suc k) ts all.1 (λ n m less is. are (suc n) m (omega (arith, less)) (omega (arith, is))),
   )
 
-  pub one_close : ShardsCloseAsMerge → (put : List Taken) → 1 ≤ shards → AreQuotes day shards 0 put → AreAnswered transcript put → IsWhole shards put → IsOneClose fares day workers put
-  one_close law put some quotes its whole =
+  pub one_close_of : ShardsCloseAsMerge → (put : List Taken) → 1 ≤ shards → AreQuotes day shards 0 put → AreAnswered transcript put → IsWhole shards put → IsOneCloseOf fares day l.number workers put
+  one_close_of law put some quotes its whole =
       let all = all_brought 0 put quotes whole.1 its in
       let long = whole.0 in
       record {
-        front = λ n. front_at 0 n put all;
-        fronts = are_fronts (λ n. front_at 0 n put all) 0 workers (λ n m less is. first_at 0 m n put all (omega (arith, less, is, long, count)) (omega (arith, is)));
-        closed = λ ledger merged asks same.
-            law fares shards (λ _. empty) (record { state = empty; ledger = ledger }) merged day put some (λ account. refl) (subst (λ n. AreAskedOf n merged) (sym count) asks) long
-            (of_shards (λ shard. replay fares empty (items_of shard merged)) 0 put all
-            (λ n m less is. ap (replay fares empty) (same m (omega (arith, less, is, long, count)) ∙ ap (λ j. front_at 0 j put all) (omega (arith, is)))));
+        one = record {
+          front = λ n. front_at 0 n put all;
+          fronts = are_fronts (λ n. front_at 0 n put all) 0 workers (λ n m less is. first_at 0 m n put all (omega (arith, less, is, long, count)) (omega (arith, is)));
+          closed = λ ledger merged asks same.
+              law fares shards (λ _. empty) (record { state = empty; ledger = ledger }) merged day put some (λ account. refl) (subst (λ n. AreAskedOf n merged) (sym count) asks) long
+              (of_shards (λ shard. replay fares empty (items_of shard merged)) 0 put all
+              (λ n m less is. ap (replay fares empty) (same m (omega (arith, less, is, long, count)) ∙ ap (λ j. front_at 0 j put all) (omega (arith, is)))));
+        };
+        asked =
+            are_asked (λ n. front_at 0 n put all) 0 workers put (long ∙ count)
+            (λ n m e less is. subst (λ j. IsAskedAfter (front_at 0 m put all) l.number (at j) (get_or put j e)) (omega (arith, is)) (asked_of 0 m m put all e (omega (arith, less, is, long, count)) (omega arith)));
       }
+
+  pub one_close : ShardsCloseAsMerge → (put : List Taken) → 1 ≤ shards → AreQuotes day shards 0 put → AreAnswered transcript put → IsWhole shards put → IsOneClose fares day workers put
+  one_close law put some quotes its whole = (one_close_of law put some quotes its whole).one
 
 -- ---- an office that has ended
 
@@ -255,3 +291,30 @@ over_as_one law office ls l day shards put all count quotes its over = record {
       (subst (AreJournalsFrom (length ended.workers) 0) ended.ends.journals_are ended.ends.asked)
       mine.2 (ways ∙ long) (count ∙ (ways ∙ long)) law put (omega (arith, some, count, ways)) quotes its whole;
 }
+
+-- ---- a close while other lanes send
+
+at_place : {X : Type 0} (P : X → Type 0) (xs : List X) (k : ℕ) (x : X) → slice_get xs k ≡ Some x → All P xs → P x
+at_place P [] k x there all = cc
+at_place P (y ∷ xs) zero x there all = let same : y ≡ x = cc in subst P same (All-head P y xs all)
+at_place P (y ∷ xs) (suc k) x there all = at_place P xs k x there (All-tail P y xs all)
+
+still_answer : (before after : ℕ → Option Answer) (t : Taken) (o : Option Answer) → NothingIsLost before after → IfSome o (IsAnswerTo before t) → IfSome o (IsAnswerTo after t)
+still_answer before after t None kept its = tt
+still_answer before after t (Some a) kept its = (kept t.ticket a its.0, its.1, its.2)
+
+still_answered : (before after : ℕ → Option Answer) (ts : List Taken) → NothingIsLost before after → AreAnswered before ts → AreAnswered after ts
+still_answered before after [] kept its = tt
+still_answered before after (t ∷ ts) kept its = (still_answer before after t t.answer kept its.0, still_answered before after ts kept its.1)
+
+pub closes_are_one : ShardsCloseAsMerge → ClosesAreOne
+closes_are_one law fares office ls l place day put transcript new together there quotes its whole kept over =
+    let ended = over.2 in
+    let long = length_all_zip IsSameWorker office ended.workers ended.same in
+    let mine : IsLaneOf office l = at_place (IsLaneOf office) ls place l there together.lanes_of_them in
+    let ways = sym (length-map l.shards (λ (s : SenderParts Entry). s.mailbox)) ∙ (ap length mine.0 ∙ length-map office (λ (w : WorkerParts). w.requests.mailbox)) in
+    let some = new.some in
+    one_close_of fares office ended.workers l (some_worker office some) day (length l.shards) new ended.same
+    (at_place (λ (m : LaneParts). All (IsAnswered m) ended.workers) ls place l there ended.ends.answered)
+    (subst (AreJournalsFrom (length ended.workers) 0) ended.ends.journals_are ended.ends.asked)
+    mine.2 (ways ∙ long) (ways ∙ long) law put (omega (arith, some, ways)) quotes (still_answered transcript (λ ticket. answer_to ticket l.answers.got) put kept its) whole

@@ -1,7 +1,8 @@
-//! What a gate keeps of a shard's journal. Each law is the contract of a function that does nothing: a caller whose proof needs a law calls
+//! What a gate keeps of a shard's journal, and what a close over a lane comes to. Each law is the contract of a function that does nothing: a caller whose proof needs a law calls
 //! its function.
 ghost use Rattle.pay_serve.specs.KeepingGates.{HoldsPassed};
 ghost use Rattle.pay_serve.specs.Kept.{KeptAreNew, PassedAreKept};
+ghost use Rattle.pay_serve.specs.Machines.{ClosesAreOne};
 
 use pay_journal::Keeper;
 
@@ -15,3 +16,11 @@ pub fn kept_are_new()
 pub fn passed_are_kept<K: Keeper>()
     ensures { PassedAreKept K.holds K.HasFailed K.IsSettled }
 {}
+
+/// A close over one lane of an office while the others send is the close of one machine which was asked all that stood in each journal before
+/// the lane's own entry that asked that shard for its quotes, in any order that keeps that of each.
+pub fn closes_are_one()
+    ensures { ClosesAreOne }
+{
+    pay_close::laws::any_shards();
+}
