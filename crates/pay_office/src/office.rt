@@ -88,9 +88,10 @@ pub struct Office<F: Fares, G: Gate> {
 }
 
 impl<F: Fares, G: Gate> Model for Office<F, G> {
-    ghost use Rattle.std.specs.Prelude.{◌≡◌, ◌≤◌, List, [], length, map as each, vec_capacity};
+    ghost use Rattle.std.specs.Prelude.{◌≡◌, ◌≤◌, List, [], All, length, map as each, vec_capacity};
     ghost use Rattle.std.specs.Coded.{coded_list};
     ghost use Rattle.pay_lanes.specs.Words.{WorkerParts, worker_code, lanes_of};
+    ghost use Rattle.pay_office.specs.Offices.{IsFromNone};
 
     ghost Value = { List WorkerParts };
 
@@ -99,7 +100,8 @@ impl<F: Fares, G: Gate> Model for Office<F, G> {
     ghost view = { λ o. each (λ w. w.promise.0.value) o.workers.items };
 
     ghost invariant = { λ o. (o.lanes ≡ lanes_of (each (λ w. w.promise.0.value) o.workers.items))
-        × (o.room.items ≡ []) × (length o.workers.items ≤ vec_capacity o.room) };
+        × (o.room.items ≡ []) × (length o.workers.items ≤ vec_capacity o.room)
+        × All IsFromNone (each (λ w. w.promise.0.value) o.workers.items) };
 }
 
 /// Tells the workers to stop, and waits until their threads have ended. What they were is lost.
