@@ -302,7 +302,7 @@ module _ {O : Type 0} (Late : Type 0) (day of : ℕ) (tickets : List ℕ) (befor
 
     told_whole : 1 ≤ of → length tickets ≡ of → (o : Option DeskFault) (lacked : Bool) → a.fault ≡ o → a.lacked_memory ≡ lacked → Told (told_by o lacked a.all)
     told_whole some all (Some fault) lacked e f = inr (record { all_put = (let many = g.many in omega (arith, many, is, all)); first = g.knows.first fault e })
-    told_whole some all None true e f = (refl, g.knows.all_brought e, (let many = g.many in omega (arith, many, is, all, some)))
+    told_whole some all None true e f = (refl, ((let many = g.many in omega (arith, many, is, all)), g.knows.all_brought e), (let many = g.many in omega (arith, many, is, all, some)))
     told_whole some all None false e f = (((let many = g.many in omega (arith, many, is, all)), g.knows.all_brought e), g.knows.made e f)
 
     told_so : {A : Type 0} (r : Result A DeskFault) → OnOk r (length tickets ≡ of) → IfErr r (λ fault. (length tickets < of) × Refuses fault) → 1 ≤ of → Told (told_of a (result_err r))

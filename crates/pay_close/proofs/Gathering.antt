@@ -55,7 +55,7 @@ module _ (Refuses : DeskFault → Type 0) (Late : Type 0) where
   pub wanting_then : (of : ℕ) (all : BatchParts) (fault : NotClosed) → 1 ≤ of → fault ≡ no_memory → (put : List Taken) → Told of put (Ok all) → Gathered of put (Err fault)
   wanting_then of all fault some e put f = subst (λ (w : NotClosed). Gathered of put (Err w)) (sym e) (
     refl,
-    f.0.1,
+    f.0,
     (let many : length put ≡ of = f.0.0 in omega arith),
   )
 

@@ -90,11 +90,11 @@ module _ (Refuses : DeskFault → Type 0) (Late : Type 0) where
   IsStopped count fault put = IsNextRefused count fault put ⊎ IsFirstWithout count fault put
 
   -- What is told of asking so many shards: what `made` makes of what they brought, or why they brought not all. Memory is refused
-  -- for what was brought.
+  -- for what was brought only once all of them brought theirs.
   abbrev pub IsTold : ℕ → (List Taken → BatchParts) → List Taken → Result BatchParts NotClosed → Type 0
   IsTold count made put (Ok batch) = IsWhole count put × (batch ≡ made put)
   IsTold count made put (Err (Desk fault)) = IsStopped count fault put
-  IsTold count made put (Err (Ledger fault)) = (fault ≡ wants_memory) × AreBrought put × (1 ≤ length put)
+  IsTold count made put (Err (Ledger fault)) = (fault ≡ wants_memory) × IsWhole count put × (1 ≤ length put)
 
   -- Shards were asked, as far as it came: what was put is `AreAsked`, it was taken, the answers that came are the transcript's, and `Told`
   -- is so of it.
