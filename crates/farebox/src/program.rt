@@ -9,7 +9,6 @@ use pay_files::{
 use pay_jobs::{Alter, Fault, Ledger};
 use pay_words::{Job, WordsFault, read_words};
 use std::alloc::{AllocError, Global};
-use std::env;
 use std::fs::File;
 use std::io::Eprint;
 use std::net::{Net, TcpListener, TcpStream};
@@ -17,6 +16,7 @@ use std::process::ExitCode;
 use std::rt::{Clock, Env, Files};
 use std::sync::Wait;
 use std::thread::Threads;
+use std::{env, fs};
 
 /// The text that is to be printed for words that give no job, or the fault that they are.
 fn text_or_fault(words: WordsFault) -> Result<String, Fault>
@@ -47,8 +47,15 @@ where
         + Send
         + 'static,
 {
+    let _held = [held(&rt), held(&rt), held(&rt)];
     let texts = given_texts(&rt)?;
     do_texts(rt, texts.as_slice())
+}
+
+/// A folder, where it can be opened. The system gives what is opened the lowest free number. So where a standard stream is closed, the
+/// folder takes its place, and no journal or ledger does, into which replies would be written. It can be neither read nor written.
+fn held<R: Files<File = File>>(rt: &R) -> Option<File> {
+    fs::open(rt, "/").ok()
 }
 
 /// The words of the process.
