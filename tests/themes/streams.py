@@ -2,6 +2,7 @@
 comes first."""
 
 import contextlib
+import functools
 import os
 import resource
 import signal
@@ -11,8 +12,8 @@ import subprocess
 from support.clocks import SUMMER_DAY
 from support.repository import CHECK, COUNTED, LONDON, STATE
 from support.running import (
-    FARES, MISSING, RUN, USAGE, End, answers, boardings, closing, edited, end_of, fault, heard, in_lines, opened_pipe,
-    run, run_file, session, started, taps_of, written,
+    FARES, MISSING, RUN, USAGE, End, answers, boardings, bytes_of, closing, edited, end_of, fault, heard, in_lines,
+    opened_pipe, run, run_file, session, started, taps_of, written,
 )
 from support.sessions import LATE_LINES, LATE_REPLIES
 from support.statements import A_BOARDING, RAIL_AND_LONE, RAIL_AND_LONE_ROWS, rows_of_statement
@@ -107,6 +108,11 @@ UNWRITABLE = {
 }
 
 
+def close_all(descriptors):
+    for it in descriptors:
+        os.close(it)
+
+
 def to_one_who_goes():
     """What a session comes to whose reader goes after the first reply."""
     first, reply = boardings(1)
@@ -155,6 +161,31 @@ class Outputs(Theme):
             ):
                 self.check(f"{what}, and an output {name}", put(given, lines), fault("output fault", output=None))
             self.check(f"no lines, and an output {name}", put(RUN, b""), End(0, None))
+
+    def test_streams_closed_beside_a_journal(self):
+        """Where a standard stream is closed no file takes its place: the journal has its lines alone, and the next
+        session takes it."""
+        lines, replies = boardings(3)
+        first = lines[:lines.index(b"\n") + 1]
+        dues = b"".join(f"DUE {account} 19730\n".encode() for account in (1, 2, 3))
+        due = b"".join(f"DUE {account} 19730 19730 1 175 4=175\n".encode() for account in (1, 2, 3))
+        no_input, no_output, no_errors = {"stdin": subprocess.DEVNULL}, {"stdout": None}, {"stderr": None}
+        for name, descriptors, how, wanted, kept in (
+            ("input", (0,), no_input, fault("input fault"), b""),
+            ("output", (1,), no_output, fault("output fault", output=None), first),
+            ("errors", (2,), no_errors, End(0, replies, None), lines),
+            ("output and errors", (1, 2), {**no_output, **no_errors}, End(1, None, None), first),
+            ("all three", (0, 1, 2), {**no_input, **no_output, **no_errors}, End(1, None, None), b""),
+        ):
+            how["preexec_fn"] = functools.partial(close_all, descriptors)
+            for more in ((), ("--ledger", os.path.join(self.folder, f"{name}.ledger"))):
+                journal = os.path.join(self.folder, f"{name}{len(more)}.lines")
+                words = [*RUN, "--journal", journal, *more]
+                what = f"{name} closed{' with a ledger' if more else ''}"
+                self.check(what, run(words, b"" if 0 in descriptors else lines, **how), wanted)
+                self.check(f"{what}, the journal", answers(bytes_of(journal)), answers(kept))
+                again = replies.replace(b"OK", b"AGAIN", kept.count(b"\n"))
+                self.check(f"{what}, and a session after it", run(words, lines + dues), answers(again + due))
 
     def test_readers_that_go(self):
         """Output that can be written no more."""
