@@ -1,5 +1,5 @@
 """The library that is loaded before the built program, or before tests, and refuses them threads, memory, room in a
-connection and the disk."""
+connection and the disk, and breaks up their standard streams."""
 
 import os
 import subprocess
@@ -10,14 +10,17 @@ import subprocess
 # Each is told by an x on the descriptor TELL. Where there is MARKED, only those between the marks of a test count;
 # marks are requests of sizes that nothing else asks for, and a third such size tells by an m that a call has said so.
 # And a send that takes ROOM bytes in all, of the one connection that there is. And an fdatasync that fails after the
-# first SETTLED calls, and an fsync after the first NAMED ones. It declares what it calls: the toolchain's compiler
-# comes without the C library's headers.
+# first SETTLED calls, and an fsync after the first NAMED ones. And a read of standard input and a write to standard
+# output of at most PIECE bytes, of which each second call is interrupted where there is INTERRUPTED. Of the writes one
+# fails once WRITTEN bytes were taken, or takes nothing where there is TAKES_NOTHING; after that they go on. It declares
+# what it calls: the toolchain's compiler comes without the C library's headers.
 SOURCE = r"""
 typedef unsigned long size_t;
 extern void *dlsym(void *, const char *);
 extern char *getenv(const char *);
 extern long atol(const char *);
 extern void *mmap(void *, size_t, int, int, int, long);
+extern void *memcpy(void *, const void *, size_t);
 extern long read(int, void *, size_t);
 extern long write(int, const void *, size_t);
 extern void abort(void);
@@ -26,6 +29,7 @@ extern int *__errno_location(void);
 #define RTLD_NEXT ((void *)-1l)
 #define PROT_READ 1
 #define MAP_SHARED 1
+#define EINTR 4
 #define EIO 5
 #define EAGAIN 11
 #define ENOMEM 12
@@ -114,6 +118,60 @@ long send(int socket, const void *bytes, size_t count, int flags) {
     return -1;
   }
   took = next(socket, bytes, room < (long)count ? (size_t)room : count, flags);
+  if (took > 0) taken += took;
+  return took;
+}
+
+static size_t piece(size_t count) {
+  static long most;
+  if (!most) most = getenv("PIECE") ? number("PIECE") : -1;
+  return most > 0 && (size_t)most < count ? (size_t)most : count;
+}
+
+static int is_interrupted(long *calls) {
+  static int may_be;
+  if (!may_be) may_be = getenv("INTERRUPTED") ? 1 : -1;
+  if (may_be < 0 || ++*calls % 2) return 0;
+  *__errno_location() = EINTR;
+  return 1;
+}
+
+/* What comes in pieces is read ahead, so that a piece costs no call of the system. */
+long read(int file, void *bytes, size_t count) {
+  typedef long fill(int, void *, size_t);
+  static fill *next;
+  static char held[65536];
+  static long from, to, calls;
+  if (!next) next = (fill *)dlsym(RTLD_NEXT, "read");
+  if (file != 0 || piece(sizeof held) == sizeof held) return next(file, bytes, count);
+  if (is_interrupted(&calls)) return -1;
+  if (from == to) {
+    from = 0, to = next(0, held, sizeof held);
+    if (to < 0) return to = 0, -1;
+  }
+  count = piece(count) < (size_t)(to - from) ? piece(count) : (size_t)(to - from);
+  memcpy(bytes, held + from, count);
+  from += count;
+  return count;
+}
+
+long write(int file, const void *bytes, size_t count) {
+  typedef long put(int, const void *, size_t);
+  static long taken, calls;
+  static int has_failed;
+  put *next = (put *)dlsym(RTLD_NEXT, "write");
+  if (file != 1) return next(file, bytes, count);
+  if (is_interrupted(&calls)) return -1;
+  count = piece(count);
+  if (getenv("WRITTEN") && !has_failed) {
+    if (taken == number("WRITTEN")) {
+      has_failed = 1;
+      *__errno_location() = EIO;
+      return getenv("TAKES_NOTHING") ? 0 : -1;
+    }
+    if (taken + (long)count > number("WRITTEN")) count = number("WRITTEN") - taken;
+  }
+  long took = next(1, bytes, count);
   if (took > 0) taken += took;
   return took;
 }

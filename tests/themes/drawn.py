@@ -152,6 +152,15 @@ def five_commands(account, dropped):
     ]
 
 
+# Six taps by their seconds after 07:00:00. The boardings at 06:43:20 and 07:50:00 pay, each more than an hour after the
+# one that paid before, and the journey from 10 to 12 costs 340.
+SIX = ((0, 50, "BUS"), (3_000, 50, "BUS"), (5_000, 50, "BUS"), (-1_000, 50, "BUS"), (0, 10, "IN"), (1_800, 12, "OUT"))
+SIX_SHOWN = (
+    f"5 690\nJNY BUS 50 0 {SEVEN - 1_000} 175\nJNY BUS 50 0 {SEVEN} 0\nJNY RAIL 10 12 {SEVEN} 340\n"
+    f"JNY BUS 50 0 {SEVEN + 3_000} 175\nJNY BUS 50 0 {SEVEN + 5_000} 0"
+)
+
+
 class Orders(Theme):
     """The same lines in another order."""
 
@@ -167,6 +176,15 @@ class Orders(Theme):
                 pairs.append((f"SHOW {account} {MONDAY}", f"SHOW {account} {MONDAY} {shown}"))
                 pairs.append((f"DUE {account} {MONDAY}", f"DUE {account} {MONDAY} {MONDAY} 5 {due}"))
             self.check(f"five commands in every order, with a Drop of {dropped}", *play(RUN_SAMPLE, pairs))
+
+    def test_every_order_of_six_taps(self):
+        """The 720 orders in which six taps can arrive, each in an account of its own."""
+        pairs = []
+        for account, order in enumerate(itertools.permutations(enumerate(SIX, 1)), 1):
+            taps = [rules.Tap(SEVEN + after, 1, seq, account, place, kind) for seq, (after, place, kind) in order]
+            pairs += by_rules(rules.SAMPLE, {}, taps)
+            pairs.append((f"SHOW {account} {MONDAY}", f"SHOW {account} {MONDAY} {SIX_SHOWN}"))
+        self.check("six taps in every order", *play(RUN_SAMPLE, pairs))
 
 
 # Where and how a tap is drawn; the last three are refused.

@@ -10,10 +10,12 @@ import socket
 import subprocess
 
 from support.clocks import SUMMER_DAY
+from support.journals import with_journal
+from support.preloads import preloaded
 from support.repository import CHECK, COUNTED, LONDON, STATE
 from support.running import (
     FARES, MISSING, RUN, USAGE, End, answers, boardings, bytes_of, closing, edited, end_of, fault, heard, in_lines,
-    opened_pipe, run, run_file, session, started, taps_of, written,
+    missing, opened_pipe, run, run_file, session, started, taps_of, written,
 )
 from support.sessions import LATE_LINES, LATE_REPLIES
 from support.statements import A_BOARDING, RAIL_AND_LONE, RAIL_AND_LONE_ROWS, rows_of_statement
@@ -290,6 +292,64 @@ class Inputs(Theme):
             broken_off(lines + b"QUIT\n", STATE),
             rows_of_statement(A_BOARDING),
         )
+
+
+# How often a session fills its buffer at the most.
+MOST_FILLS = 16_777_216
+
+
+class Pieces(Theme):
+    """Streams that give and take few bytes of a call, are interrupted, or fail once."""
+
+    def setUp(self):
+        super().setUp()
+        self.library = preloaded(self.folder)
+
+    def broken_up(self, **how):
+        """How a program is run whose standard streams are broken up so."""
+        return {"env": {"LD_PRELOAD": self.library, **{name: str(it) for name, it in how.items()}}}
+
+    def test_streams_in_pieces(self):
+        """The same, however few bytes go at a time, and if each second call of a stream is interrupted."""
+        statement = in_lines(taps_of(RAIL_AND_LONE))
+        for name, words, lines, wanted in (
+            ("a session with a close", RUN, in_lines(LATE_LINES), answers(in_lines(LATE_REPLIES))),
+            ("what a fare file has", CHECK, b"", answers(COUNTED)),
+            ("a statement", STATE, statement, rows_of_statement(*RAIL_AND_LONE_ROWS)),
+        ):
+            for piece in (1, 5, 1_000):
+                self.check(f"{name}, {piece} bytes at a time", run(words, lines, **self.broken_up(PIECE=piece)), wanted)
+                how = self.broken_up(PIECE=piece, INTERRUPTED=1)
+                self.check(f"{name}, {piece} bytes at a time, interrupted", run(words, lines, **how), wanted)
+
+    def test_outputs_that_fail_once(self):
+        """Nothing is written after a write that failed or took nothing, and no line is taken but the next one."""
+        late = in_lines(LATE_LINES), in_lines(LATE_REPLIES)
+        for written_bytes in range(len(late[1])):
+            wanted = fault("output fault", late[1][:written_bytes])
+            for how in ({}, {"TAKES_NOTHING": 1}, {"PIECE": 5, "INTERRUPTED": 1}):
+                came = run(RUN, late[0], **self.broken_up(WRITTEN=written_bytes, **how))
+                self.check(f"a write that fails after {written_bytes} bytes {how}", came, wanted)
+        lines, replies = boardings(4)
+        for written_bytes in range(len(replies)):
+            journal = missing(self.folder)
+            came = run(with_journal(journal), lines, **self.broken_up(WRITTEN=written_bytes))
+            # The line of the reply that failed was taken, and each is kept before its reply.
+            taken = written_bytes // 17 + 1
+            self.check(
+                f"a journal, and a write that fails after {written_bytes} bytes",
+                came._replace(left=bytes_of(journal)),
+                fault("output fault", replies[:written_bytes])._replace(left=boardings(taken)[0]),
+            )
+
+    def test_fills_that_end(self):
+        """A session gives up after its last fill, and not before."""
+        one_at_a_time = self.broken_up(PIECE=1)
+        # The end of the input takes one too.
+        self.check(
+            "an end at the last fill", run(RUN, b"A" * (MOST_FILLS - 1), **one_at_a_time), answers(b"NO 51 LongLine\n")
+        )
+        self.check("no end at the last fill", run(RUN, b"A" * MOST_FILLS, **one_at_a_time), fault("input fault"))
 
 
 class Errors(Theme):

@@ -1,5 +1,5 @@
-//! Accounts that are kept: taps in whatever order, drawn histories beside accounts that are priced from scratch, and memory
-//! that runs out midway. By the sample fare file, and histories by drawn ones.
+//! Accounts that are kept: drawn histories beside accounts that are priced from scratch, and memory that runs out midway. By the
+//! sample fare file, and histories by drawn ones.
 
 ghost use Rattle.std.specs.Prelude.{◌≡◌, ◌<◌, ◌≤◌};
 ghost use Rattle.std.specs.List.{AllByRecursion};
@@ -253,78 +253,6 @@ fn runs_by_late_taps(rt: HostRuntime) {
     tell(&rt, MAY_BE_REFUSED);
     a_run::<HostRuntime, Book>(&rt, &editions);
     a_run::<HostRuntime, Account>(&rt, &editions);
-}
-
-/// Six taps of the Monday: of each its second, its place and its kind. Their numbers are their places, from 1.
-static SIX: [(u32, u16, Kind); 6] = [
-    (25_200, 50, Kind::Bus),
-    (28_200, 50, Kind::Bus),
-    (30_200, 50, Kind::Bus),
-    (24_200, 50, Kind::Bus),
-    (25_200, 10, Kind::In),
-    (27_000, 12, Kind::Out),
-];
-
-/// The order of this number of the 720 in which six may come.
-fn order(number: usize) -> [usize; 6] {
-    let mut order = [0, 1, 2, 3, 4, 5];
-    order.swap(0, number % 6);
-    order.swap(1, 1 + number / 6 % 5);
-    order.swap(2, 2 + number / 30 % 4);
-    order.swap(3, 3 + number / 120 % 3);
-    order.swap(4, 4 + number / 360 % 2);
-    order
-}
-
-/// Sends the tap of this place.
-fn send_one<R: Abort, F: Fares>(
-    rt: &R,
-    account: &mut F,
-    editions: &Editions,
-    place: usize,
-) -> Priced
-    requires { F.IsPricedBy editions.now account.old }
-    ensures { F.IsPricedBy editions.now account.new }
-{
-    let (second, at, kind) = *SIX.get(place).expect(rt, "a tap");
-    let tap = Tap {
-        account: account.number(),
-        ..tap_at(rt, place as u32 + 1, second, at, kind)
-    };
-    account.tap(editions, tap).expect(rt, "a price")
-}
-
-/// What is told last, if the six come in this order.
-fn last_told<R: Abort, F: Fares>(
-    rt: &R,
-    account: &mut F,
-    editions: &Editions,
-    order: &[usize; 6],
-) -> Priced
-    requires { F.IsPricedBy editions.now account.old }
-{
-    send_one(rt, account, editions, order[0]);
-    send_one(rt, account, editions, order[1]);
-    send_one(rt, account, editions, order[2]);
-    send_one(rt, account, editions, order[3]);
-    send_one(rt, account, editions, order[4]);
-    send_one(rt, account, editions, order[5])
-}
-
-/// Compares what is told last, if the six come to account 7 in this order.
-fn expect_order<R: Abort + AllocGlobal, F: Fares>(rt: &R, editions: &Editions, order: [usize; 6]) {
-    let mut account: F = empty_account(rt, editions);
-    let last = last_told(rt, &mut account, editions, &order);
-    expect_same(rt, (order, last), (order, told(false, 690)));
-}
-
-// The first and the third boarding pay, and the journey from 10 to 12 costs 340.
-#[test]
-fn six_in_whatever_order(rt: HostRuntime) {
-    let editions = sample(&rt);
-    for number in 0..720 {
-        expect_order::<HostRuntime, Book>(&rt, &editions, order(number));
-    }
 }
 
 /// Where touches are made, and boardings, those that make runs more often.

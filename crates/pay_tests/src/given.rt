@@ -32,7 +32,7 @@ pub fn expect_list<R: Abort, T: PartialEq + Debug + Drop, F: Copy + PartialEq + 
 /// Monday, 2024-01-08.
 pub const MONDAY: u32 = 19_730;
 
-/// What a test tells `tests/allocations`, by asking for so many bytes, which nothing else does: memory may be refused from here on.
+/// What a test tells `tests/allocations.py`, by asking for so many bytes, which nothing else does: memory may be refused from here on.
 pub const MAY_BE_REFUSED: usize = 1_000_003;
 /// It may not any more.
 pub const MAY_NOT_BE: usize = 1_000_033;

@@ -1,7 +1,7 @@
 //! The tests of all crates but the program's own, from taps to sessions over lanes and closes into a ledger in memory, each by public
 //! calls alone. They are a crate of their own since one with tests is proved twice. They show what no clause says: that each public
-//! call succeeds with ample memory, that each generic one is met by a type, and what comes of readers, writers, stores and allocations
-//! that fail. What is worked out in rows is data for `tests/program`, which runs the built program on it.
+//! call succeeds with ample memory, that each generic one is met by a type, and what comes of flushes, desks, stores and allocations
+//! that fail. What is worked out in rows is data for `tests/program.py`, which runs the built program on it.
 #![tactic(auto)]
 
 #[cfg(test)]
@@ -23,8 +23,6 @@ mod given;
 #[cfg(test)]
 mod hopper;
 #[cfg(test)]
-mod kept;
-#[cfg(test)]
 mod lanes;
 #[cfg(test)]
 mod ledgers;
@@ -39,8 +37,6 @@ mod sessions;
 #[cfg(test)]
 mod shards;
 #[cfg(test)]
-mod statements;
-#[cfg(test)]
 mod steps;
 #[cfg(test)]
 mod streams;
@@ -48,5 +44,3 @@ mod streams;
 mod taps;
 #[cfg(test)]
 mod tills;
-#[cfg(test)]
-mod wire;

@@ -1,14 +1,14 @@
 //! What an account that is priced from scratch owes, what it has of a week, and what it has accepted, by the sample fare file. What those
-//! that are kept answer is shown by `tests/program`.
+//! that are kept answer is shown by `tests/program.py`.
 
 ghost use Rattle.std.specs.Prelude.{◌≡◌, ◌≤◌};
 
 use crate::accounts::expect_price;
 use crate::given::{MONDAY, expect_same, first_four, sample, tap_at};
-use crate::statements::{BY_RAIL, expect_statement};
 use pay_account::Account;
 use pay_money::Pence;
 use pay_rules::{Fares, Kind};
+use pay_statement::write_csv;
 use pay_tables::Editions;
 use std::process::Abort;
 
@@ -62,6 +62,14 @@ fn ride<R: Abort, F: Fares>(
     expect_price(rt, account, editions, exit, prices.1);
 }
 
+/// The statement of three journeys by rail in the band of zones 1 to 2, and of a tap alone that no band covers.
+const STATEMENT: &str = "day,kind,from,to,start,fare,band
+19730,RAIL,10,12,07:00:00,340,1-2
+19730,RAIL,12,10,07:30:00,340,1-2
+19730,RAIL,10,12,08:00:00,340,1-2
+19730,LONE,10,0,12:00:00,860,-
+";
+
 /// Compares what is due after the three journeys, and what is listed and kept after a fourth that is not finished.
 fn owes_lists_and_keeps<R: Abort + AllocGlobal, F: Fares>(rt: &R, editions: &Editions) {
     let mut account: F = three_rides(rt, editions);
@@ -75,7 +83,11 @@ fn owes_lists_and_keeps<R: Abort + AllocGlobal, F: Fares>(rt: &R, editions: &Edi
     let lone = tap_at(rt, 7, 43_200, 10, Kind::In);
     expect_price(rt, &mut account, editions, lone, 1_750);
     let lines = account.lines(editions, MONDAY).expect(rt, "memory");
-    expect_statement(rt, lines.as_slice(), BY_RAIL);
+    let text = write_csv(editions, lines.as_slice(), Vec::new(rt.alloc())).expect(
+        rt,
+        "a statement",
+    );
+    expect_same(rt, text.as_slice(), STATEMENT.as_bytes());
     let sets = account.sets().expect(rt, "memory");
     expect_same(
         rt,

@@ -7,7 +7,7 @@ ghost use Rattle.pay_wire.specs.declared.refusal.Refusal.TheVariants as refusal;
 use crate::accounts::expect_price;
 use crate::desks::empty_desk;
 use crate::given::{MONDAY, expect_same, sample, tap_at};
-use crate::streams::{Scripted, Trickle};
+use crate::streams::Flushed;
 use jiff::tz::TimeZone;
 use pay_account::Account;
 use pay_book::Book;
@@ -197,37 +197,21 @@ struct Ended {
     closes: usize,
 }
 
-/// A session of a reader and a writer comes to this, and the writer holds the first bytes of the replies.
-fn expect_ended<R: Abort + AllocGlobal>(
-    rt: &R,
-    mut reader: Trickle<'_>,
-    mut writer: Scripted<'_>,
-    wanted: Ended,
-    bytes: usize,
-) {
+/// A session of lines comes to this, with these replies.
+fn expect_ended<R: Abort + AllocGlobal>(rt: &R, mut lines: &[u8], wanted: Ended, replies: &str) {
     let editions = sample(rt);
     let mut till = till(rt, &editions);
     let mut desk = desk(rt, editions);
     let zone = TimeZone::posix("GMT0BST,M3.5.0/1,M10.5.0").expect(rt, "a rule");
-    let result = session(&mut reader, &mut writer, &zone, &mut desk, &mut till);
+    let mut writer = Flushed::new(rt.alloc(), usize::MAX);
+    let result = session(&mut lines, &mut writer, &zone, &mut desk, &mut till);
     let ended = Ended {
         result,
         asked: desk.asked,
         closes: till.closes,
     };
     expect_same(rt, ended, wanted);
-    expect_same(rt, writer.held.len(), bytes);
-    assert!(rt; REPLIES.as_bytes().starts_with(&writer.held));
-}
-
-/// A reader of the lines that fails after so many bytes.
-fn lines_until<'a>(until: usize) -> Trickle<'a> {
-    Trickle {
-        bytes: LINES.as_bytes(),
-        until,
-        interrupted: false,
-        calls: 0,
-    }
+    expect_same(rt, writer.held.as_slice(), replies.as_bytes());
 }
 
 /// What all lines come to.
@@ -243,96 +227,23 @@ const ALL: Ended = Ended {
 
 #[test]
 fn says_what_a_desk_and_a_till_say(rt: HostRuntime) {
-    let writer = Scripted::new(rt.alloc(), &[]);
-    expect_ended(&rt, lines_until(usize::MAX), writer, ALL, 279);
+    expect_ended(&rt, LINES.as_bytes(), ALL, REPLIES);
 }
 
-#[test]
-fn closes_where_it_was_interrupted(rt: HostRuntime) {
-    let reader = Trickle {
-        interrupted: true,
-        ..lines_until(usize::MAX)
-    };
-    let writer = Scripted {
-        interrupted: true,
-        most: 5,
-        ..Scripted::new(rt.alloc(), &[])
-    };
-    expect_ended(&rt, reader, writer, ALL, 279);
-}
-
-/// The reader fails after so many bytes: the lines before are answered, and no other is asked for.
-fn expect_read_fault<R: Abort + AllocGlobal>(
-    rt: &R,
-    until: usize,
-    replies: u8,
-    bytes: usize,
-    closes: usize,
-) {
-    let wanted = Ended {
-        result: Err(SessionFault::Read {
-            answered: u128::from(replies),
-        }),
-        asked: replies.min(5),
-        closes,
-    };
-    let writer = Scripted::new(rt.alloc(), &[]);
-    expect_ended(rt, lines_until(until), writer, wanted, bytes);
-}
-
-#[test]
-fn closes_until_the_reader_fails(rt: HostRuntime) {
-    expect_read_fault(&rt, 0, 0, 0, 0);
-    expect_read_fault(&rt, 11, 0, 0, 0);
-    expect_read_fault(&rt, 52, 3, 35, 0);
-    expect_read_fault(&rt, 89, 5, 61, 0);
-    expect_read_fault(&rt, 90, 6, 147, 1);
-    expect_read_fault(&rt, 187, 14, 275, 9);
-}
-
-/// The writer fails after so many bytes: the next line was asked for, and the lines after it were not.
-fn expect_write_fault<R: Abort + AllocGlobal>(rt: &R, room: usize, replies: u8, closes: usize) {
-    let wanted = Ended {
-        result: Err(SessionFault::Write {
-            answered: u128::from(replies),
-        }),
-        asked: replies.saturating_add(1).min(5),
-        closes,
-    };
-    let writer = Scripted {
-        room,
-        ..Scripted::new(rt.alloc(), &[])
-    };
-    expect_ended(rt, lines_until(usize::MAX), writer, wanted, room);
-}
-
-#[test]
-fn closes_until_the_writer_fails(rt: HostRuntime) {
-    expect_write_fault(&rt, 0, 0, 0);
-    expect_write_fault(&rt, 30, 2, 0);
-    // Before the first posting and within it, before the second and within it, within the line after them, and after that.
-    expect_write_fault(&rt, 61, 5, 1);
-    expect_write_fault(&rt, 62, 5, 1);
-    expect_write_fault(&rt, 95, 5, 1);
-    expect_write_fault(&rt, 100, 5, 1);
-    expect_write_fault(&rt, 140, 5, 1);
-    expect_write_fault(&rt, 147, 6, 2);
-}
+/// What the first three lines come to.
+const THREE: Ended = Ended {
+    result: Ok(Done {
+        answered: 3,
+        quit: false,
+        lacked_memory: false,
+    }),
+    asked: 3,
+    closes: 0,
+};
 
 #[test]
 fn tells_that_memory_was_not_wanting(rt: HostRuntime) {
-    let reader = Trickle {
-        bytes: &LINES.as_bytes()[..52],
-        ..lines_until(usize::MAX)
-    };
-    let wanted = Ended {
-        result: Ok(Done {
-            answered: 3,
-            quit: false,
-            lacked_memory: false,
-        }),
-        asked: 3,
-        closes: 0,
-    };
-    expect_ended(&rt, reader, Scripted::new(rt.alloc(), &[]), wanted, 35);
+    let three = LINES.split_at_checked(52).expect(&rt, "three lines");
+    let replies = REPLIES.split_at_checked(35).expect(&rt, "their replies");
+    expect_ended(&rt, three.0.as_bytes(), THREE, replies.0);
 }

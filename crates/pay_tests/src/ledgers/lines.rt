@@ -1,4 +1,4 @@
-//! Lines that are answered over a desk and a ledger. What they answer is shown by `tests/program`.
+//! Lines that are answered over a desk and a ledger. What they answer is shown by `tests/program.py`.
 
 ghost use Rattle.std.specs.Prelude.{◌≡◌};
 
