@@ -10,3 +10,5 @@ mod Lasting
 mod Readied
 mod Passed
 mod Finding
+mod Lists
+mod Newest

@@ -9,7 +9,7 @@ pub use Rattle.pay_ledger.specs.Opening.{IsFirstLedger, FirstIsCopied, FirstBeco
 unfoldable pub use Rattle.pay_ledger.specs.Steps.{IsOnDisk}
 pub use Rattle.pay_ledger.specs.Steps.{Stays, GoesOn, IsStep, HasGoneOn, HasStopped, RowsGrow, Grows, FindsRows, FindsLedger, ReadsInto, IsRefused, BecomesPosted, Posts, IsAsBefore, MayLeave}
 pub use Rattle.pay_ledger.specs.Examined.{accounts, accounts_in, PassesRows, AllPassRows, PassRowsBefore, PassUpTo, PassesIn, AllPass, PassBefore, IsFoundOfRows, IsFoundAmong, IsFoundInRows, IsFoundIn}
-pub use Rattle.pay_ledger.specs.Last.{has_posting}
+pub use Rattle.pay_ledger.specs.Last.{has_posting, has_row, IsHad, newest_in}
 pub use Rattle.pay_ledger.specs.Calls.{ChangesNothing, ChangesNothingIfRefused, ReadsIntoIfDone, GrowsInside, IsJudged}
 pub use Rattle.pay_ledger.specs.Calls.{AnswersOfReadable, FindsInHeldRows, RefusesBadRows, RefusesBadAmounts, RefusesBadRowsOf, RefusesBadRowsFirst}
 pub use Rattle.pay_ledger.specs.Calls.{FindsInLedger, AnswersOfLedger, RefusesOfLedger, AnswersOfRows, RefusesOfRows, FailsByStoreAlone, FailsByStoreAloneOfRows, RefusesOpenAlone, RefusesAsDefined, IsRefusedAsBad, AreAccountsOf, RestoresRows, RestoresLedger}

@@ -1,4 +1,4 @@
-ghost use Rattle.std.specs.Prelude.{◌≡◌, ◌≢◌, false, List, Some, map as each, IfNone, IfSome, IfOk, IfErr};
+ghost use Rattle.std.specs.Prelude.{◌≡◌, ◌≢◌, true, false, List, Some, Ok, map as each, IfNone, IfSome, IfOk, IfErr};
 ghost use Rattle.std.specs.List.{IsDistinct};
 ghost use Rattle.std.specs.List.Sorted.{IsStrictlySortedBy};
 ghost use Rattle.std.specs.Ordering.{nat_cmp, eq_by_cmp};
@@ -9,17 +9,17 @@ ghost use Rattle.pay_rules.specs.State.{ArePriced};
 ghost use Rattle.pay_restore.specs.Words.{restored};
 ghost use Rattle.pay_records.specs.Words.{OnCleanDisk, LeavesAsBeforeOr, LeavesAsBefore, Answers, IsFree};
 ghost use Rattle.pay_ledger.specs.Opening.{HasNoView, IsWhy, IsOpened, BlankJustGrows, MayLeaveOpened};
-ghost use Rattle.pay_ledger.specs.Steps.{IsOnDisk, Posts, MayLeave};
-ghost use Rattle.pay_ledger.specs.Last.{has_posting};
+ghost use Rattle.pay_ledger.specs.Steps.{IsOnDisk, IsRefused, Posts, MayLeave};
+ghost use Rattle.pay_ledger.specs.Last.{IsHad, has_row, newest_in};
 ghost use Rattle.pay_ledger.specs.Examined.{AllPass, AllPassRows, PassBefore, PassRowsBefore, IsFoundIn, IsFoundInRows};
 ghost use Rattle.pay_ledger.specs.BadRows.{ReadsAs, net_said, asked};
-ghost use Rattle.pay_ledger.specs.Calls.{ChangesNothing, ChangesNothingIfRefused, AnswersOfLedger, AnswersOfRows, AnswersOfReadable, FailsByStoreAlone, RefusesAsDefined, RefusesOpenAlone, RefusesBadRows, RefusesBadAmounts, RefusesBadRowsFirst, AreAccountsOf, RestoresRows, RestoresLedger};
+ghost use Rattle.pay_ledger.specs.Calls.{ChangesNothing, ChangesNothingIfRefused, AnswersOfLedger, AnswersOfRows, AnswersOfReadable, RefusesOfRows, FailsByStoreAlone, FailsByStoreAloneOfRows, RefusesAsDefined, RefusesOpenAlone, RefusesBadRows, RefusesBadAmounts, RefusesBadRowsFirst, AreAccountsOf, RestoresRows, RestoresLedger};
 
 use crate::crashes::settled;
 use crate::examining::{Examiner, examine};
 use crate::fault::{LedgerFault, OpenFault};
-use crate::last::{LastPosting, is_among};
-use crate::lookup::{Archive, archive_of, net_of, of_week, posted_of};
+use crate::last::LastPosting;
+use crate::lookup::{Archive, archive_of, has_row, net_of, newest, of_week, posted_of};
 use crate::opening::prepare;
 use crate::post::post;
 use pay_restore::{Editions, Fares, restored};
@@ -131,15 +131,29 @@ impl<S: Alter> Ledger<S> {
         Ok(Postings::from(of_week(self.alloc, &posted, account, week)?))
     }
 
-    /// Whether this posting was made: one of its account and week, through its day and for its version.
+    /// Whether this posting was made: one of its account and week, through its day and for its version, and by its number, if that is
+    /// known. Nothing else of its row is asked.
     pub fn has(&mut self, posting: &LastPosting) -> Result<bool, LedgerFault>
-        ensures told { AnswersOfLedger S.Store self.old self.new result (λ ledger has. has ≡ has_posting posting.now ledger.postings) }
-        ensures never_bad { FailsByStoreAlone S.Store self.old self.new result }
+        ensures told { AnswersOfRows S.Store self.old self.new result (λ rows has. has ≡ has_row posting.now rows) }
+        ensures of_ledger { AnswersOfLedger S.Store self.old self.new result (λ ledger has. IsHad posting.now ledger.postings has) }
+        ensures never_bad { FailsByStoreAloneOfRows S.Store self.old self.new result }
         ensures unchanged { ChangesNothing S.Store self.old self.new }
         ensures survives { LeavesAsBefore S.Store self.old self.new }
     {
-        let postings = self.postings(posting.account, posting.week)?;
-        Ok(is_among(posting, postings.as_slice()))
+        has_row(self.alloc, &mut self.conn, posting)
+    }
+
+    /// The posting of the greatest number, by its row, if there is a posting. `BadArchive` where its quote has a number that is below 0 or
+    /// has more than 32 bits.
+    pub fn newest_posting(&mut self) -> Result<Option<LastPosting>, LedgerFault>
+        ensures told { AnswersOfRows S.Store self.old self.new result (λ rows newest. newest_in rows ≡ Ok newest) }
+        // So a ledger has the posting that is noted of it.
+        ensures there { AnswersOfRows S.Store self.old self.new result (λ rows newest. IfSome newest (λ last. has_row last rows ≡ true)) }
+        ensures refused { RefusesOfRows S.Store self.old self.new result (λ rows fault. IsRefused fault (newest_in rows)) }
+        ensures unchanged { ChangesNothing S.Store self.old self.new }
+        ensures survives { LeavesAsBefore S.Store self.old self.new }
+    {
+        newest(self.alloc, &mut self.conn)
     }
 
     /// What an account was charged for a week less what it was given back, in pence: the sum of the amounts. Nothing else of

@@ -1,14 +1,16 @@
-ghost use Rattle.std.specs.Prelude.{◌≡◌, ◌++◌, ◌∷◌, [], Some, false, IfOk, OnOk};
+ghost use Rattle.std.specs.Prelude.{◌≡◌, ◌++◌, ◌∷◌, [], Some, Ok, false, IfOk, OnOk};
 ghost use Rattle.pay_postings.specs.Words.{postings_of, net_from_rows};
 ghost use Rattle.pay_records.specs.Words.{LeavesAsBefore};
 ghost use Rattle.pay_ledger.specs.BadRows.{ReadsAs, net_said, IsNetOf};
-ghost use Rattle.pay_ledger.specs.Steps.{IsStep};
-ghost use Rattle.pay_ledger.specs.Calls.{ChangesNothing, AnswersOfRows, FailsByStoreAloneOfRows, RefusesBadRows, RefusesBadAmounts};
+ghost use Rattle.pay_ledger.specs.Last.{has_row, newest_in};
+ghost use Rattle.pay_ledger.specs.Steps.{IsStep, IsRefused};
+ghost use Rattle.pay_ledger.specs.Calls.{ChangesNothing, AnswersOfRows, RefusesOfRows, FailsByStoreAloneOfRows, RefusesBadRows, RefusesBadAmounts};
 
 use crate::fault::LedgerFault;
+use crate::last::{LastPosting, is_among, last_account, newest_of};
 use crate::read::read_posted;
 use pay_postings::{Posted, net_from_rows};
-use pay_records::{all_fixes, all_taps, postings_of};
+use pay_records::{all_fixes, all_taps, posted_accounts, postings_of};
 use pay_rows::{FixRow, PostingRow, TapRow};
 use pay_rules::{PostFault, Posting};
 use sqlite::{Alter, Connection, Transaction};
@@ -73,6 +75,71 @@ pub(crate) fn net_of<S: Alter>(
     let _ = conn.is_autocommit();
     let mut tx = conn.transaction();
     read_net(alloc, &mut tx, account, week)
+}
+
+fn read_has<S: Alter>(
+    alloc: Global,
+    tx: &mut Transaction<'_, S>,
+    posting: &LastPosting,
+) -> Result<bool, LedgerFault>
+    ensures step { IsStep S.Store tx.old.conn tx.new.conn result }
+    ensures found { AnswersOfRows S.Store tx.old.conn.now tx.new.conn.now result (λ rows has. has ≡ has_row posting.now rows) }
+    ensures never_bad { FailsByStoreAloneOfRows S.Store tx.old.conn.now tx.new.conn.now result }
+{
+    let rows = postings_of(alloc, tx, i64::from(posting.account))?;
+    Ok(is_among(posting, &rows))
+}
+
+/// Whether a row is of this posting.
+pub(crate) fn has_row<S: Alter>(
+    alloc: Global,
+    conn: &mut Connection<S>,
+    posting: &LastPosting,
+) -> Result<bool, LedgerFault>
+    requires { conn.old.in_transaction ≡ false }
+    ensures autocommit { conn.new.in_transaction ≡ false }
+    ensures found { AnswersOfRows S.Store conn.old conn.new result (λ rows has. has ≡ has_row posting.now rows) }
+    ensures never_bad { FailsByStoreAloneOfRows S.Store conn.old conn.new result }
+    ensures unchanged { ChangesNothing S.Store conn.old conn.new }
+    ensures survives { LeavesAsBefore S.Store conn.old conn.new }
+{
+    let _ = conn.is_autocommit();
+    let mut tx = conn.transaction();
+    read_has(alloc, &mut tx, posting)
+}
+
+/// Reads the account of each posting, and then the rows of the last one.
+fn read_newest<S: Alter>(
+    alloc: Global,
+    tx: &mut Transaction<'_, S>,
+) -> Result<Option<LastPosting>, LedgerFault>
+    ensures step { IsStep S.Store tx.old.conn tx.new.conn result }
+    ensures found { AnswersOfRows S.Store tx.old.conn.now tx.new.conn.now result (λ rows newest. newest_in rows ≡ Ok newest) }
+    ensures refused { RefusesOfRows S.Store tx.old.conn.now tx.new.conn.now result (λ rows fault. IsRefused fault (newest_in rows)) }
+{
+    let accounts = posted_accounts(alloc, tx)?;
+    let Some(account) = last_account(&accounts) else {
+        return Ok(None);
+    };
+    let rows = postings_of(alloc, tx, account)?;
+    newest_of(account, &rows)
+}
+
+/// The newest posting, which is that of the last row.
+pub(crate) fn newest<S: Alter>(
+    alloc: Global,
+    conn: &mut Connection<S>,
+) -> Result<Option<LastPosting>, LedgerFault>
+    requires { conn.old.in_transaction ≡ false }
+    ensures autocommit { conn.new.in_transaction ≡ false }
+    ensures found { AnswersOfRows S.Store conn.old conn.new result (λ rows newest. newest_in rows ≡ Ok newest) }
+    ensures refused { RefusesOfRows S.Store conn.old conn.new result (λ rows fault. IsRefused fault (newest_in rows)) }
+    ensures unchanged { ChangesNothing S.Store conn.old conn.new }
+    ensures survives { LeavesAsBefore S.Store conn.old conn.new }
+{
+    let _ = conn.is_autocommit();
+    let mut tx = conn.transaction();
+    read_newest(alloc, &mut tx)
 }
 
 /// Adds a posting, if it is of a week. An `Err` is out of memory.

@@ -53,20 +53,20 @@ fn batch_for<S: Alter>(
     Ok(accounts.post(alloc, quotes, sets)?)
 }
 
-/// Writes what is to be added.
+/// Writes what is to be added: the number of the last posting, if there is one.
 fn write_batch<S: Alter>(
     alloc: Global,
     tx: &mut Transaction<'_, S>,
     batch: &PostingBatch,
-) -> Result<(), LedgerFault>
+) -> Result<Option<i64>, LedgerFault>
     ensures step { IsStep S.Store tx.old.conn tx.new.conn result }
     ensures writes { GrowsInside S.Store tx.old.conn.now tx.new.conn.now result (λ ledger. with_batch ledger (lists batch.now)) }
     ensures of_store { IfErr result (λ fault. IsTrue (is_of_store fault)) }
 {
-    write_postings(alloc, tx, &batch.postings)?;
+    let id = write_postings(alloc, tx, &batch.postings)?;
     write_taps(tx, &batch.taps)?;
     write_fixes(tx, &batch.fixes)?;
-    Ok(())
+    Ok(id)
 }
 
 /// Adds what posting quotes and archiving sets comes to, in a transaction that is not committed yet.
@@ -84,8 +84,8 @@ fn add_batch<S: Alter>(
     are_quotes(quotes);
     pay_postings::laws::paid();
     let batch = batch_for(alloc, tx, quotes, sets)?;
-    write_batch(alloc, tx, &batch)?;
-    *last = last_of(&batch.postings, *last);
+    let id = write_batch(alloc, tx, &batch)?;
+    *last = last_of(&batch.postings, id, *last);
     Ok(batch.given)
 }
 

@@ -29,12 +29,12 @@ fn write_shares<S: Alter>(
     Ok(())
 }
 
-/// Writes a posting and what of it fell to operators.
+/// Writes a posting and what of it fell to operators: the number that it gets.
 fn write_posting<S: Alter>(
     alloc: Global,
     tx: &mut Transaction<'_, S>,
     posting: &Posting,
-) -> Result<(), LedgerFault>
+) -> Result<i64, LedgerFault>
     ensures step { IsStep S.Store tx.old.conn tx.new.conn result }
     ensures writes { GrowsInside S.Store tx.old.conn.now tx.new.conn.now result (with_postings (posting.now ∷ [])) }
     ensures of_store { IfErr result (λ fault. IsTrue (is_of_store fault)) }
@@ -45,23 +45,25 @@ fn write_posting<S: Alter>(
         &posting_row(posting),
     )?;
     let shares = share_rows(alloc, id, posting)?;
-    write_shares(tx, &shares)
+    write_shares(tx, &shares)?;
+    Ok(id)
 }
 
-/// Writes postings, in their order.
+/// Writes postings, in their order: the number of the last one, if there is one.
 pub(crate) fn write_postings<S: Alter>(
     alloc: Global,
     tx: &mut Transaction<'_, S>,
     postings: &[Posting],
-) -> Result<(), LedgerFault>
+) -> Result<Option<i64>, LedgerFault>
     ensures step { IsStep S.Store tx.old.conn tx.new.conn result }
     ensures writes { GrowsInside S.Store tx.old.conn.now tx.new.conn.now result (with_postings postings.now) }
     ensures of_store { IfErr result (λ fault. IsTrue (is_of_store fault)) }
 {
+    let mut last = None;
     for posting in postings {
-        write_posting(alloc, tx, posting)?;
+        last = Some(write_posting(alloc, tx, posting)?);
     }
-    Ok(())
+    Ok(last)
 }
 
 /// Archives taps, in their order.

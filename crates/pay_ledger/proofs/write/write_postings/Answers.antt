@@ -18,7 +18,7 @@ loop-posting-preserved g c =
     let step = c.in_ok-write_posting.ensures.step in (
       and_on g.S.Store c.loop-posting.invariant.0 step,
       λ clean inside.
-          let was_clean = was g.S.Store {r = Ok tt} step clean in
+          let was_clean = was g.S.Store {r = Ok c.in_ok-write_posting.field-0} step clean in
           let grown = c.loop-posting.invariant.1 was_clean inside in
           let more = c.in_ok-write_posting.ensures.writes clean (c.loop-posting.invariant.0.goes_on.inside was_clean inside) in
           (λ ledger unchanged. subst (λ s. Stores after.now (record ledger { postings = s })) (ap (λ x. (ledger.postings ++ take c.loop-posting.posting-index c.args.postings.now) ++ x ∷ []) (search rules) ∙ one_more ledger.postings c.args.postings.now c.loop-posting.posting-index c.posting-item.result c.loop-posting-test.true) (more.0 _ (grown.0 ledger unchanged)), others_then first.now before.now after.now grown.1 more.1),
