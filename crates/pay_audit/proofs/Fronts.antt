@@ -11,13 +11,13 @@ use Rattle.pay_rows.specs.declared.row.ShareRow.{ShareRow}
 use Rattle.pay_rules.specs.declared.posting.Posting.{Posting}
 use Rattle.pay_set_rows.specs.Ranged.{◌>>=◌}
 use Rattle.pay_postings.specs.Amounts.{IsMoney}
-use Rattle.pay_postings.specs.Postings.{is_of, postings_of, net}
+use Rattle.pay_postings.specs.Postings.{is_of, postings_of, net, last_of}
 use Rattle.pay_postings.specs.PostingRows.{is_money, is_share_row, posting_from_row, with_rows, postings_from_rows}
 use Rattle.pay_postings.specs.NetRows.{with_amount_of, with_amounts_of, NetIsOfPostings}
 use Rattle.pay_records.specs.Words.{LedgerRows}
 use Rattle.pay_records.specs.Found as found
 use Rattle.pay_ledger.specs.Words.{ReadsAs}
-use Rattle.pay_audit.specs.Settled.{net_of, so_far, posted_for, ComeTooFar}
+use Rattle.pay_audit.specs.Settled.{net_of, so_far, ComeTooFar}
 use Rattle.pay_audit.proofs.Sums.{as_posted, come_to}
 
 -- ---- the first of some rows say the first of their postings
@@ -110,6 +110,6 @@ never_too_far net_is rows account week list read far =
     let front = take first.0 read.0 in
     let money : IsMoney (net account week front) =
     all_more week (pos 0) its (net account week front) (net_is account week its read.1.0 front (first_rows account read.1.0 (found.postings_of (pos account) rows) read.0 first.0 read.1.2)) (omega arith) in
-    let sum : so_far (take far.0 list) ≡ posted_for account week front = ap (λ (l : List Posting). so_far (take far.0 l)) read.2 ∙ ap so_far first.1 ∙ come_to account week front in
+    let sum : so_far (take far.0 list) ≡ as_posted (last_of account week front) (net account week front) = ap (λ (l : List Posting). so_far (take far.0 l)) read.2 ∙ ap so_far first.1 ∙ come_to account week front in
     let all_money : IsMoney (net_of (so_far (take far.0 list))) = subst (λ o. IsMoney (net_of o)) (sym sum) (money_so_far _ (net account week front) money) in
     far.1 (fits_signed_from_abs w64 (net_of (so_far (take far.0 list))) (omega (arith, all_money)))

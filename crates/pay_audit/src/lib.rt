@@ -8,4 +8,4 @@ mod settling;
 
 pub use beside::{first_difference, next_difference};
 pub use difference::Difference;
-pub use settling::{PostedSoFar, posted_for, unsettled, weeks_of};
+pub use settling::{PostedSoFar, PostedSums, posted_for, unsettled, weeks_of};

@@ -1,5 +1,5 @@
 //! What was posted for an account and week, and what is due for it.
-ghost use Rattle.std.specs.Prelude.{◌≡◌, ◌≤◌, ◌↔◌, ◌++◌, ◌+ℤ◌, ℕ, List, Some, map, FitsSigned, IfOk, IfErr, IfSome};
+ghost use Rattle.std.specs.Prelude.{◌≡◌, ◌≤◌, ◌↔◌, ◌++◌, ◌+ℤ◌, ℕ, List, Some, map, pos, sum, FitsSigned, IfOk, IfErr, IfSome};
 ghost use Rattle.std.specs.Int.{w64};
 ghost use Rattle.std.specs.List.{Contains, filter_map};
 ghost use Rattle.std.specs.List.Sorted.{IsStrictlySortedBy};
@@ -9,23 +9,66 @@ ghost use Rattle.pay_money.specs.declared.limits.TheConstants.{MOST_MONEY};
 ghost use Rattle.pay_rules.specs.declared.posting.Posting.{Posting};
 ghost use Rattle.pay_records.specs.Words.{LeavesAsBefore};
 ghost use Rattle.pay_ledger.specs.Words.{ReadsAs, AnswersOfLedger, AnswersOfRows, FailsByStoreAlone, RefusesBadRows, ChangesNothing};
-ghost use Rattle.pay_audit.specs.Settled.{net_of, with_posting, so_far, ComeTooFar, posted_for, other_due, unsettled, day_of, IsWeekOf};
+ghost use Rattle.pay_audit.specs.Settled.{nothing_posted, net_of, with_posting, so_far, ComeTooFar, posted_for, is_as_posted, other_due, unsettled, day_of, IsWeekOf};
 
 use pay_day::monday;
 use pay_ledger::{Ledger, LedgerFault};
 use pay_money::Pence;
-use pay_rules::{Fares, Fix, PostFault, Posting, Tap, What};
+use pay_money::limits::OPERATORS;
+use pay_rules::{Fares, Fix, PostFault, Posting, Quote, Tap, What};
 use pay_tables::Editions;
 use sqlite::Alter;
 use std::alloc::{AllocError, Global};
+
+/// What was charged for an account and week less what was given back, in pence.
+#[derive(Clone, Copy, Debug, PartialEq, Eq)]
+pub struct PostedSums {
+    /// The sum of the amounts.
+    pub net: i64,
+    /// What of it fell to each operator, operator 1 first: the sum of its share amounts.
+    pub shares: [i64; OPERATORS],
+}
+
+impl PostedSums {
+    /// Nothing was posted.
+    pub fn none() -> PostedSums
+        ensures { result ≡ nothing_posted }
+    {
+        PostedSums {
+            net: 0,
+            shares: [0; OPERATORS],
+        }
+    }
+}
 
 /// What was posted for an account and week so far.
 #[derive(Clone, Copy, Debug, PartialEq, Eq)]
 pub struct PostedSoFar {
     /// The day through which the last posting is, counted from 1970-01-01.
     pub through: u32,
-    /// What was charged less what was given back, in pence: the sum of the amounts.
-    pub net: i64,
+    /// What the postings come to.
+    pub sums: PostedSums,
+}
+
+/// Shares as amounts.
+fn as_amounts(shares: &[u64; OPERATORS]) -> [i64; OPERATORS]
+    requires { sum shares.now ≤ MOST_MONEY }
+    ensures { result ≡ map pos shares.now }
+{
+    let mut amounts = [0; OPERATORS];
+    for place in 0..OPERATORS {
+        amounts[place] = shares[place] as i64;
+    }
+    amounts
+}
+
+/// What of a quote falls to each operator, as amounts.
+fn shares_of(quote: &Quote) -> [i64; OPERATORS]
+    ensures { result ≡ map pos quote.now.shares }
+{
+    // For the range of the shares.
+    let _ = quote.due();
+    as_amounts(quote.shares())
 }
 
 /// What was posted so far, with a further posting. `BadArchive` where the sum has no 64 bits.
@@ -35,7 +78,7 @@ fn with_posting(before: Option<PostedSoFar>, posting: &Posting) -> Result<Posted
     ensures too_far { IfErr result (λ fault. (fault ≡ PostFault.BadArchive) × (FitsSigned w64 (net_of before +ℤ posting.now.amount) → ⊥)) }
 {
     let net = match before {
-        Some(it) => it.net,
+        Some(it) => it.sums.net,
         None => 0,
     };
     let Some(net) = net.checked_add(posting.amount) else {
@@ -43,7 +86,11 @@ fn with_posting(before: Option<PostedSoFar>, posting: &Posting) -> Result<Posted
     };
     Ok(PostedSoFar {
         through: posting.quote.through(),
-        net,
+        sums: PostedSums {
+            net,
+            // What a posting is read as: what fell to each operator up to it is its quote's share.
+            shares: shares_of(&posting.quote),
+        },
     })
 }
 
@@ -81,33 +128,39 @@ pub fn posted_for<S: Alter>(
     Ok(so_far(postings.as_slice())?)
 }
 
-/// What is due, if it is not what was posted, in pence.
-fn other_due(due: Pence, posted: i64) -> Option<Pence>
-    requires { due ≤ MOST_MONEY }
-    ensures { result ≡ other_due due posted }
+/// Whether as much was posted as is due, and for each operator as much as its share.
+fn is_as_posted(quote: &Quote, posted: &PostedSums) -> bool
+    ensures { result ≡ is_as_posted quote.now posted.now }
 {
-    if due.pence() as i64 == posted {
+    quote.due().pence() as i64 == posted.net && shares_of(quote) == posted.shares
+}
+
+/// What is due, if it is not what was posted, or falls to other operators, in pence.
+fn other_due(quote: &Quote, posted: &PostedSums) -> Option<Pence>
+    ensures { result ≡ other_due quote.now posted.now }
+{
+    if is_as_posted(quote, posted) {
         None
     } else {
-        Some(due)
+        Some(quote.due())
     }
 }
 
-/// What is due through a service day, counted from 1970-01-01, of its week, if that is not what was posted, in pence. An `Err` is
-/// out of memory.
+/// What is due through a service day, counted from 1970-01-01, of its week, if that is not what was posted, or falls to other operators, in
+/// pence. An `Err` is out of memory.
 pub fn unsettled<F: Fares>(
     account: &F,
     editions: &Editions,
     through: u32,
-    net: i64,
+    posted: &PostedSums,
 ) -> Result<Option<Pence>, AllocError>
     requires numbered { 1 ≤ F.account account.now }
     requires is_day { IsDay through }
     requires priced_by { F.IsPricedBy editions.now account.now }
-    ensures { IfOk result (λ it. it ≡ unsettled editions.now (F.account account.now) (F.accepted account.now) through net) }
+    ensures { IfOk result (λ it. it ≡ unsettled editions.now (F.account account.now) (F.accepted account.now) through posted.now) }
 {
-    let due = account.quote(editions, through)?.due();
-    Ok(other_due(due, net))
+    let quote = account.quote(editions, through)?;
+    Ok(other_due(&quote, posted))
 }
 
 /// The service day of which a correction is, if it is a Fill or a Credit.

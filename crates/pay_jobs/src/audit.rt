@@ -1,5 +1,5 @@
 //! The job `audit`: what of a ledger differs from what journals give back, and what is not settled.
-ghost use Rattle.std.specs.Prelude.{◌≡◌, ◌≤◌, ◌+◌, length, Some, IfOk, IfSome, OnOk, OnErr};
+ghost use Rattle.std.specs.Prelude.{◌≡◌, ◌≤◌, ◌+◌, length, None, Some, IfOk, IfNone, IfSome, OnOk, OnErr};
 ghost use Rattle.pay_day.specs.Words.{IsDay};
 ghost use Rattle.pay_postings.specs.Words.{AgreesWith};
 ghost use Rattle.pay_shard.specs.Words.{state_now};
@@ -13,7 +13,9 @@ use crate::last::take_noted;
 use crate::ledger::differs;
 use crate::replays::{accounts_of, replayed_texts};
 use crate::run::begin_service;
-use pay_audit::{Difference, first_difference, next_difference, posted_for, unsettled, weeks_of};
+use pay_audit::{
+    Difference, PostedSums, first_difference, next_difference, posted_for, unsettled, weeks_of,
+};
 use pay_book::Book;
 use pay_day::limits::{FIRST_DAY, LAST_DAY};
 use pay_day::monday;
@@ -25,7 +27,7 @@ use sqlite::Alter;
 use std::alloc::{AllocError, Global};
 use std::collections::{BTreeMap, BTreeSet};
 
-/// What is due for an account and a week, and is not what was posted.
+/// What is due for an account and a week, and is not what was posted, or falls to other operators.
 #[derive(Clone, Copy)]
 pub struct Unsettled {
     /// The account.
@@ -36,7 +38,7 @@ pub struct Unsettled {
     pub through: u32,
     /// What is due through that day, in pence.
     pub due: u64,
-    /// What was charged less what was given back, in pence.
+    /// What was charged less what was given back, in pence: what is due, where only the shares of operators differ.
     pub posted: i64,
 }
 
@@ -54,7 +56,7 @@ pub struct Open {
 struct PostedWeek {
     account: u32,
     week: u32,
-    net: i64,
+    sums: PostedSums,
 }
 
 /// The last day through which each week was closed, by its Monday, for whichever account.
@@ -165,7 +167,7 @@ fn put_compared(list: &mut Vec<Fault>, compared: Result<(), Fault>) -> Result<()
     }
 }
 
-/// All that is due for weeks that were closed, and was not posted: late taps and corrections are posted only when their week is closed again.
+/// All that is due for weeks that were closed, and was not posted, or not for these operators: late taps and corrections are posted only when their week is closed again.
 /// A week counts as closed through the last day through which it was posted for whichever account.
 fn all_unsettled<S: Alter>(
     alloc: Global,
@@ -273,14 +275,18 @@ fn posted_week<S: Alter>(
     account: u32,
     week: u32,
 ) -> Result<PostedWeek, Fault> {
-    let net = match posted_for(ledger, account, week)? {
-        None => 0,
+    let sums = match posted_for(ledger, account, week)? {
+        None => PostedSums::none(),
         Some(posted) => {
             closed.note(week, posted.through)?;
-            posted.net
+            posted.sums
         }
     };
-    Ok(PostedWeek { account, week, net })
+    Ok(PostedWeek {
+        account,
+        week,
+        sums,
+    })
 }
 
 impl Open {
@@ -301,7 +307,7 @@ impl Open {
 }
 
 impl Open {
-    /// Puts what is due for an account through a day at the end, if it is not what was posted.
+    /// Puts what is due for an account through a day at the end, if it is not what was posted, or falls to other operators.
     fn put<F: Fares>(
         &mut self,
         account: &F,
@@ -313,7 +319,7 @@ impl Open {
         requires is_day { IsDay through }
         requires priced_by { F.IsPricedBy editions.now account.now }
     {
-        let found = unsettled_of(account, posted.account, editions, through, posted.net)?;
+        let found = unsettled_of(account, posted.account, editions, through, &posted.sums)?;
         if let Some(it) = found {
             self.unsettled.push(it).map_err(AllocError::from)?;
             self.closes.insert(through).map_err(AllocError::from)?;
@@ -322,19 +328,21 @@ impl Open {
     }
 }
 
-/// What is due for an account through a day of its week, if it is not what was posted.
+/// What is due for an account through a day of its week, if it is not what was posted, or falls to other operators.
 fn unsettled_of<F: Fares>(
     account: &F,
     number: u32,
     editions: &Editions,
     through: u32,
-    posted: i64,
+    posted: &PostedSums,
 ) -> Result<Option<Unsettled>, AllocError>
     requires numbered { 1 ≤ F.account account.now }
     requires is_day { IsDay through }
     requires priced_by { F.IsPricedBy editions.now account.now }
-    ensures due { IfOk result (λ found. IfSome found (λ it. unsettled editions.now (F.account account.now) (F.accepted account.now) through posted ≡ Some it.due)) }
+    ensures due { IfOk result (λ found. IfSome found (λ it. unsettled editions.now (F.account account.now) (F.accepted account.now) through posted.now ≡ Some it.due)) }
     ensures through { IfOk result (λ found. IfSome found (λ it. (it.account ≡ number) × (it.through ≡ through))) }
+    ensures posted { IfOk result (λ found. IfSome found (λ it. it.posted ≡ posted.now.net)) }
+    ensures settled { IfOk result (λ found. IfNone found (unsettled editions.now (F.account account.now) (F.accepted account.now) through posted.now ≡ None)) }
 {
     match unsettled(account, editions, through, posted)? {
         None => Ok(None),
@@ -343,7 +351,7 @@ fn unsettled_of<F: Fares>(
             week: monday(through),
             through,
             due: due.pence(),
-            posted,
+            posted: posted.net,
         })),
     }
 }
