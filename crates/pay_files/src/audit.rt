@@ -143,7 +143,7 @@ where
 {
     refuse_missing(rt, path)?;
     let (alloc, zone, noted) = (rt.alloc(), words.zone, noted.posting());
-    let mut ledger = rt.ledger(path)?;
+    let mut ledger = rt.existing_ledger(path)?;
     let found = audit_ledger(alloc, fares, zone, texts, kept, &mut ledger, noted);
     rt.close(ledger);
     let found = found?;
@@ -173,7 +173,7 @@ fn print_audit<R: Print>(rt: &R, found: &Audit) -> io::Result<()> {
     Ok(())
 }
 
-/// Refuses a ledger that is not there, or has nothing: it would be made.
+/// Refuses a ledger that is not there, or has nothing: its file would be made.
 fn refuse_missing<R: Files>(rt: &R, path: &str) -> Result<(), Fault> {
     if is_new_ledger(rt, path) {
         return Err(Fault::File(FileFault::NoLedger));
@@ -191,7 +191,7 @@ where
 {
     let fares = fares_text(rt, words.fares)?;
     refuse_missing(rt, words.ledger)?;
-    let mut ledger = rt.ledger(words.ledger)?;
+    let mut ledger = rt.existing_ledger(words.ledger)?;
     let text = rebuilt(rt.alloc(), fares.as_str(), &mut ledger);
     rt.close(ledger);
     match io::writer(rt).write_all(text?.as_slice()) {

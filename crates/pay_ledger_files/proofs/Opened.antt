@@ -1,5 +1,5 @@
 -- A ledger of a database that was found, and why one is none.
-use Rattle.std.proofs.Common.{inr}
+use Rattle.std.proofs.Common.{◌≡◌, ◌∙◌, Bool, true, false, inl, inr, refl, sym}
 use Rattle.sqlite.specs.Store.{Ghosts}
 use Rattle.sqlite.specs.Held.{Held, state}
 use Rattle.sqlite.specs.State.{State, HasCleanDisk, Opens, Survives}
@@ -8,7 +8,9 @@ use Rattle.pay_records.specs.Words.{empty_is_free}
 use Rattle.pay_ledger.specs.declared.fault.OpenFault.{OpenFault}
 use Rattle.pay_ledger.specs.Words.{IsLedger, nothing, MayLeaveOpened}
 use Rattle.pay_ledger_files.specs.Opening.{IsMadeOf, IsNoneOf}
-use Rattle.pay_ledger_files.specs.Files.{IsOpenedOf, IsNotOpened}
+use Rattle.pay_ledger.specs.declared.fault.OpenFault.TheVariants.{NotALedger}
+use Rattle.pay_ledger_files.specs.Files.{IsOpenedOf, IsNotOpened, has_meta, free_has_no_meta, IsExistingOf, IsNotExisting}
+use Rattle.std.proofs.lemmas.Bool.{true≢false}
 use Rattle.std.proofs.Common.{arith}
 
 module _ {S : Type 0} (g : Ghosts S) (was : Held S) where
@@ -34,6 +36,19 @@ module _ {S : Type 0} (g : Ghosts S) (was : Held S) where
       why = none.why;
       survives = none.survives;
     })
+
+    -- one that had the table of its version was there before
+    pub existing_of : (ledger : Held S) (there : Bool) → there ≡ has_meta (state g was).now → there ≡ true → IsMadeOf g was ledger → IsExistingOf g Found ledger
+    unfolding opened_of
+    existing_of ledger there is so made = record {
+      is = opened_of ledger made;
+      was_there = λ clean. sym is ∙ so;
+      was_not_free = λ clean free. true≢false (sym so ∙ is ∙ free_has_no_meta (state g was).now free);
+    }
+
+    -- and one without it is none
+    pub without_meta : (there : Bool) → there ≡ has_meta (state g was).now → there ≡ false → IsNotExisting g Found NotALedger
+    without_meta there is so = inl (record { left = was; found = found; without = sym is ∙ so; is = refl })
 
   -- where there was nothing it is a ledger of nothing
   pub new_ledger : (ledger : Held S) (Blank : Type 0) → (HasCleanDisk (state g was) → Blank → IsEmpty (state g was)) → IsMadeOf g was ledger → HasCleanDisk (state g ledger) → Blank → IsLedger (state g ledger).now nothing

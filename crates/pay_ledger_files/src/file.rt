@@ -5,10 +5,10 @@ ghost use Rattle.sqlite.specs.Start.{FindsIn};
 ghost use Rattle.sqlite.specs.State.{HasCleanDisk, Opens};
 ghost use Rattle.sqlite.specs.Steps.{IsEmpty};
 ghost use Rattle.sqlite.specs.WalFiles.{image_at};
-ghost use Rattle.pay_ledger_files.specs.Files.{fault_of_file, IsUnopened, IsOpenedOf, IsNotOpenedFrom};
+ghost use Rattle.pay_ledger_files.specs.Files.{fault_of_file, IsUnopened, IsOpenedOf, IsNotOpenedFrom, IsExistingOf, IsNotExistingIn};
 ghost use Rattle.pay_ledger.specs.Words.{IsLedger, nothing};
 
-use crate::opening::ledger_of;
+use crate::opening::{has_meta, ledger_of};
 use pay_disk::open_database;
 use pay_ledger::{Ledger, OpenFault};
 use sqlite::{Connection, Error, ErrorCode, FileFrom, FileStore, Start};
@@ -53,6 +53,27 @@ pub fn open_file<S: Start>(
     ensures refused { IsNotOpenedFrom (image_at S.Start) result }
 {
     let conn = database_at(rt, path, start)?;
+    match ledger_of(rt.alloc(), conn) {
+        Ok(ledger) => Ok(ledger),
+        Err(fault) => Err(fault),
+    }
+}
+
+/// The same of a ledger that is there already: nothing is made where a database has none of its tables, which is `NotALedger` too, and
+/// stays as it is. One of version 1 becomes one of version 2, as in [`open_file`]. The caller sees to it that the file is there: where
+/// it is not, it is made, with a database without tables.
+pub fn open_existing<S: Start>(
+    rt: &HostRuntime,
+    path: &str,
+    start: S,
+) -> Result<Ledger<FileStore<FileFrom<S>>>, OpenFault>
+    ensures opened { IfOk result (λ ledger. IsExistingOf over_files (FindsIn (image_at S.Start)) ledger) }
+    ensures refused { IsNotExistingIn (image_at S.Start) result }
+{
+    let conn = database_at(rt, path, start)?;
+    if !has_meta(&conn) {
+        return Err(OpenFault::NotALedger);
+    }
     match ledger_of(rt.alloc(), conn) {
         Ok(ledger) => Ok(ledger),
         Err(fault) => Err(fault),

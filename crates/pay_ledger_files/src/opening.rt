@@ -1,10 +1,12 @@
 //! A ledger of a database in two files, whatever disk these are on.
 ghost use Rattle.std.specs.Prelude.{◌≡◌, false, IfOk, IfErr};
 ghost use Rattle.sqlite.specs.Files.{over_files};
+ghost use Rattle.sqlite.specs.Held.{state};
+ghost use Rattle.pay_ledger_files.specs.Files.{has_meta};
 ghost use Rattle.pay_ledger_files.specs.Opening.{IsMadeOf, IsNoneOf};
 
 use pay_ledger::{Ledger, OpenFault};
-use sqlite::{Connection, FileStore};
+use sqlite::{Alter, Connection, FileStore};
 use sqlite_disk::Disk;
 use std::alloc::Global;
 
@@ -22,4 +24,11 @@ pub fn ledger_of<D: Disk + Drop>(
         Ok(ledger) => Ok(ledger),
         Err((fault, _)) => Err(fault),
     }
+}
+
+/// Whether the table is there in which each ledger tells its version.
+pub fn has_meta<S: Alter>(conn: &Connection<S>) -> bool
+    ensures { result ≡ has_meta (state S.Store conn.now).now }
+{
+    conn.schema().table_named(b"meta").is_some()
 }
