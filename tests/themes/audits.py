@@ -5,7 +5,7 @@ import shutil
 
 from support.fares import an_edition, quiet
 from support.journals import new_folder, with_both
-from support.ledgers import DONE, PAID, copied_ledger, session_over
+from support.ledgers import DONE, PAID, copied_ledger, others_database, session_over
 from support.running import A_DAY, MISSING, RUN, SEVEN, End, answers, bytes_of, fault, in_lines, run, written
 from support.serving import closed, ended, serving, talk
 from support.theme import Theme
@@ -102,6 +102,31 @@ class Audits(Theme):
             answers(b"UNSETTLED 7 19730 19736 425 525\nUNSETTLED 7 19737 19738 0 175\nCLOSE 19736\nCLOSE 19738\n"),
         )
         self.check("without the ledger", audit(self.folder, ledger=None), answers(b""))
+
+    def test_shares_that_move(self):
+        """An amount that falls to another operator alone is not settled until that is posted: what is due and what was
+        posted are equal."""
+        def later(*lines):
+            return run([*RUN, "--journal", os.path.join(self.folder, "journal")], in_lines(lines))
+
+        self.check(
+            "an In alone",
+            session_over(self.folder, [f"TAP 1 1 7 {SEVEN} 10 IN", "CLOSE 19730"]),
+            answers(b"OK 19730 860 860\nPAY 7 19730 19730 1 860 860 1=860\nDONE 19730 1\n"),
+        )
+        self.check("settled", audit(self.folder), answers(b""))
+        self.check("its Out", later(f"FIX 3 1 7 FILL {SEVEN + 1800} 12 OUT"), answers(b"OK 19730 340 340\n"))
+        self.check("less is due", audit(self.folder), answers(b"UNSETTLED 7 19730 19730 340 860\nCLOSE 19730\n"))
+        # The Out alone is 860 too, and falls to operator 2.
+        self.check("no In", later("FIX 3 2 7 VOID 1 1"), answers(b"OK 19730 860 860\n"))
+        told = audit(self.folder)
+        self.check("as much is due", told, answers(b"UNSETTLED 7 19730 19730 860 860\nCLOSE 19730\n"))
+        self.check(
+            "its close",
+            session_over(self.folder, ["CLOSE 19730"]),
+            answers(b"PAY 7 19730 19730 3 860 0 1=-860 2=860\nDONE 19730 1\n"),
+        )
+        self.check("settled by it", audit(self.folder), answers(b""))
 
     def test_what_differs(self):
         """Each account that differs is told, and what stands beside the journal; the status tells it."""
@@ -249,3 +274,39 @@ class Audits(Theme):
         self.check("it is not made", answers(bytes_of(os.path.join(self.folder, "none"))), answers(None))
         shutil.copyfile(os.path.join(self.folder, "again"), os.path.join(self.folder, "text"))
         self.check("no ledger", run(["rebuild", RUN[1], os.path.join(self.folder, "text")]), fault("40 NotALedger"))
+
+    def test_nothing_is_made(self):
+        """A database without a ledger, and a file of one byte, stay as they are, and so does a path without a file: no
+        audit makes a ledger, and no rebuild."""
+        written(self.folder, "journal", f"{BUS}\n".encode())
+        written(self.folder, "byte", b"\0")
+        others_database(
+            os.path.join(self.folder, "notes"), "CREATE TABLE notes (text TEXT)", "INSERT INTO notes VALUES ('as it was')"
+        )
+        others_database(os.path.join(self.folder, "bare"), "PRAGMA user_version = 7")
+        before = all_files(self.folder)
+        for name, ledger, wanted in (
+            ("no file", "none", "no such ledger"), ("a byte", "byte", "no such ledger"),
+            ("a database of others", "notes", "40 NotALedger"), ("one without tables", "bare", "40 NotALedger"),
+        ):
+            self.check(f"an audit of {name}", audit(self.folder, ledger=ledger), fault(wanted))
+            self.check(
+                f"a rebuild of {name}", run(["rebuild", RUN[1], os.path.join(self.folder, ledger)]), fault(wanted)
+            )
+            self.check(
+                f"after {name} all is there, and no more",
+                answers(repr(all_files(self.folder)).encode()),
+                answers(repr(before).encode()),
+            )
+        # A session may still make its ledger there.
+        self.check(
+            "a session over the database of others",
+            session_over(self.folder, ["CLOSE 19730"], ledger="notes"),
+            answers(PAID + DONE),
+        )
+        self.check("then it is audited", audit(self.folder, ledger="notes"), answers(b""))
+        self.check(
+            "and rebuilt",
+            run(["rebuild", RUN[1], os.path.join(self.folder, "notes")]),
+            answers(f"{BUS}\n".encode()),
+        )
