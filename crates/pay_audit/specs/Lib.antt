@@ -1,3 +1,4 @@
 pub mod Differs
 pub mod Settled
+pub mod Unclosed
 pub mod Words
