@@ -128,6 +128,64 @@ class Audits(Theme):
         )
         self.check("settled by it", audit(self.folder), answers(b""))
 
+    def test_what_is_not_closed(self):
+        """A week with days that no close has reached is told, and its Sunday, up to the last day that was closed of any
+        week, until these are closed."""
+        def later(*lines):
+            return run([*RUN, "--journal", os.path.join(self.folder, "journal")], in_lines(lines))
+
+        friday, tuesday = SEVEN + 4 * A_DAY, SEVEN + 8 * A_DAY
+        self.check(
+            "three days, of which none is closed",
+            later(BUS, f"TAP 1 1 8 {friday} 50 BUS", f"TAP 1 2 7 {tuesday} 50 BUS"),
+            answers(b"OK 19730 175 175\nOK 19734 175 175\nOK 19738 175 175\n"),
+        )
+        self.check(
+            "a close of the second week",
+            session_over(self.folder, ["CLOSE 19738"]),
+            answers(b"PAY 7 19737 19738 2 175 175 4=175\nDONE 19738 1\n"),
+        )
+        self.check("two accounts of the first", audit(self.folder), answers(b"UNCLOSED 19730 2\nCLOSE 19736\n"))
+        # Through Tuesday account 8 has nothing, and is not quoted.
+        self.check(
+            "a close of its Tuesday",
+            session_over(self.folder, ["CLOSE 19731"]),
+            answers(b"PAY 7 19730 19731 2 175 175 4=175\nDONE 19731 1\n"),
+        )
+        self.check("account 8 is left", audit(self.folder), answers(b"UNCLOSED 19730 1\nCLOSE 19736\n"))
+        # A late tap of account 7, two hours after its first; and in the week from 19716 on a Fill that was withdrawn, and
+        # a Credit alone, which no close quotes. After Tuesday 19738 no day is known to be over.
+        self.check(
+            "more lines",
+            later(
+                f"TAP 1 3 7 {SEVEN + 7200} 50 BUS",
+                f"FIX 3 1 9 FILL {SEVEN - 14 * A_DAY} 50 BUS",
+                "FIX 3 2 9 DROP 3 1",
+                "FIX 3 1 10 CREDIT 19717 100",
+                f"TAP 1 1 10 {SEVEN + 9 * A_DAY} 50 BUS",
+            ),
+            answers(b"OK 19730 350 350\nOK 19716 175 175\nOK 19716 0 0\nOK 19717 0 0\nOK 19739 175 175\n"),
+        )
+        told = audit(self.folder)
+        self.check(
+            "all that is open",
+            told,
+            answers(
+                b"UNSETTLED 7 19730 19731 350 175\nUNCLOSED 19716 1\nUNCLOSED 19730 1\n"
+                b"CLOSE 19722\nCLOSE 19731\nCLOSE 19736\n"
+            ),
+        )
+        closes = [line for line in told.output.decode().splitlines() if line.startswith("CLOSE")]
+        self.check(
+            "its closes",
+            session_over(self.folder, closes),
+            answers(
+                b"PAY 9 19716 19722 2 0 0\nDONE 19722 1\nPAY 7 19730 19731 3 350 175 4=175\nDONE 19731 1\n"
+                b"PAY 7 19730 19736 3 350 0\nPAY 8 19730 19736 1 175 175 4=175\nDONE 19736 2\n"
+            ),
+        )
+        self.check("closed by them", audit(self.folder), answers(b""))
+
     def test_what_differs(self):
         """Each account that differs is told, and what stands beside the journal; the status tells it."""
         journal = os.path.join(self.folder, "journal")

@@ -15,8 +15,8 @@ use std::process::ExitCode;
 use std::rt::Files;
 use std::{fs, io};
 
-/// All that differs between journals, what is kept beside them and a ledger, and all that is not settled, to standard output. The status
-/// says whether they belong together. No line is added, and nothing is posted.
+/// All that differs between journals, what is kept beside them and a ledger, all that is not settled, and all that is not closed, to
+/// standard output. The status says whether they belong together. No line is added, and nothing is posted.
 pub fn audit_files<R, S: Alter + Drop>(rt: &R, words: &AuditWords<'_>) -> Result<ExitCode, Fault>
 where
     R: Files<File = File> + Ledgers<InFile = Ledger<S>> + Print + Eprint + AllocGlobal,
@@ -166,6 +166,9 @@ fn print_audit<R: Print>(rt: &R, found: &Audit) -> io::Result<()> {
         let (account, week, through) = (it.account, it.week, it.through);
         let (due, posted) = (it.due, it.posted);
         println!(rt; "UNSETTLED {account} {week} {through} {due} {posted}")?;
+    }
+    for (week, accounts) in &found.open.unclosed {
+        println!(rt; "UNCLOSED {week} {accounts}")?;
     }
     for day in &found.open.closes {
         println!(rt; "CLOSE {day}")?;

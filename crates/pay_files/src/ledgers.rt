@@ -27,10 +27,7 @@ impl Ledgers for HostRuntime {
         open_file(self, path, Wary)
     }
 
-    fn existing_ledger(
-        &self,
-        path: &str,
-    ) -> Result<Ledger<FileStore<FileFrom<Wary>>>, OpenFault> {
+    fn existing_ledger(&self, path: &str) -> Result<Ledger<FileStore<FileFrom<Wary>>>, OpenFault> {
         open_existing(self, path, Wary)
     }
 

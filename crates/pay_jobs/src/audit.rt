@@ -1,10 +1,12 @@
-//! The job `audit`: what of a ledger differs from what journals give back, and what is not settled.
-ghost use Rattle.std.specs.Prelude.{◌≡◌, ◌≤◌, ◌+◌, length, None, Some, IfOk, IfNone, IfSome, OnOk, OnErr};
+//! The job `audit`: what of a ledger differs from what journals give back, what is not settled, and what no close has reached.
+ghost use Rattle.std.specs.Prelude.{◌≡◌, ◌≤◌, ◌+◌, false, length, None, Some, IfOk, IfNone, IfSome, OnOk, OnErr};
 ghost use Rattle.pay_day.specs.Words.{IsDay};
 ghost use Rattle.pay_postings.specs.Words.{AgreesWith};
 ghost use Rattle.pay_shard.specs.Words.{state_now};
 ghost use Rattle.pay_ledger.specs.Words.{AnswersOfLedger};
+ghost use Rattle.pay_rules.specs.SetsParts.{sets};
 ghost use Rattle.pay_audit.specs.Settled.{unsettled};
+ghost use Rattle.pay_audit.specs.Unclosed.{is_unclosed};
 
 use crate::begun::FaresAndZone;
 use crate::fault::Fault;
@@ -14,7 +16,8 @@ use crate::ledger::differs;
 use crate::replays::{accounts_of, replayed_texts};
 use crate::run::begin_service;
 use pay_audit::{
-    Difference, PostedSums, first_difference, next_difference, posted_for, unsettled, weeks_of,
+    Difference, PostedSums, WeekClosed, first_difference, is_unclosed, next_difference, posted_for,
+    unsettled, weeks_of,
 };
 use pay_book::Book;
 use pay_day::limits::{FIRST_DAY, LAST_DAY};
@@ -42,12 +45,15 @@ pub struct Unsettled {
     pub posted: i64,
 }
 
-/// All that is not settled.
+/// All that is not settled, and all that is not closed.
 #[derive(Drop)]
 pub struct Open {
     /// In ascending order of account and week.
     pub unsettled: Vec<Unsettled>,
-    /// The days that settle it if they are closed again, in ascending order.
+    /// The Mondays of the weeks that have days which are over and that no close has reached, and of each how many accounts have a tap
+    /// or a Fill on such a day.
+    pub unclosed: BTreeMap<u32, u64>,
+    /// The days that settle all of it if they are closed, in ascending order.
     pub closes: BTreeSet<u32>,
 }
 
@@ -63,16 +69,22 @@ struct PostedWeek {
 #[derive(Drop)]
 struct Closed {
     weeks: BTreeMap<u32, u32>,
+    // The last of all these days, and 0 where there is none.
+    last: u32,
 }
 
 impl Closed {
     /// A week was closed through a day.
-    fn note(&mut self, week: u32, through: u32) -> Result<(), AllocError> {
+    fn note(&mut self, week: u32, through: u32) -> Result<(), AllocError>
+        ensures last { OnOk result (through ≤ self.new.last) }
+        ensures rises { self.old.last ≤ self.new.last }
+    {
         let last = match self.weeks.get(&week) {
             Some(last) => *last,
             None => through,
         };
         self.weeks.insert(week, last.max(through))?;
+        self.last = self.last.max(through);
         Ok(())
     }
 
@@ -85,6 +97,19 @@ impl Closed {
             None => None,
         }
     }
+
+    /// How far a week was closed, and how far all were.
+    fn of(&self, week: u32) -> WeekClosed
+        ensures week { result.week ≡ week }
+        ensures last { result.last ≡ self.now.last }
+        ensures through { IfSome result.through IsDay }
+    {
+        WeekClosed {
+            week,
+            through: self.through(week),
+            last: self.last,
+        }
+    }
 }
 
 /// What an audit of journals beside a ledger found.
@@ -92,7 +117,7 @@ impl Closed {
 pub struct Audit {
     /// What differs, as a start reports it.
     pub differences: Vec<Fault>,
-    /// What is not settled.
+    /// What is not settled, and what is not closed.
     pub open: Open,
 }
 
@@ -108,7 +133,8 @@ pub fn audit_journals(
     compared(alloc, desk.shard(), zone, kept)
 }
 
-/// The same, and what differs between it and a ledger, which has the posting that is noted beside the journals; and what is not settled.
+/// The same, and what differs between it and a ledger, which has the posting that is noted beside the journals; and what is not settled,
+/// or not closed.
 pub fn audit_ledger<S: Alter>(
     alloc: Global,
     fares: &str,
@@ -125,7 +151,7 @@ pub fn audit_ledger<S: Alter>(
     }
     let mut more = all_differences(alloc, desk.shard(), ledger)?;
     differences.append(&mut more)?;
-    let open = all_unsettled(alloc, desk.shard(), ledger)?;
+    let open = all_open(alloc, desk.shard(), ledger)?;
     Ok(Audit { differences, open })
 }
 
@@ -167,19 +193,23 @@ fn put_compared(list: &mut Vec<Fault>, compared: Result<(), Fault>) -> Result<()
     }
 }
 
-/// All that is due for weeks that were closed, and was not posted, or not for these operators: late taps and corrections are posted only when their week is closed again.
-/// A week counts as closed through the last day through which it was posted for whichever account.
-fn all_unsettled<S: Alter>(
+/// All that is due for weeks that were closed, and was not posted, or not for these operators: late taps and corrections are posted only
+/// when their week is closed again. A week counts as closed through the last day through which it was posted for whichever account. And
+/// all weeks with taps or Fills on days that no close has reached: up to the last day that was closed of any week, since later ones may
+/// not be over.
+fn all_open<S: Alter>(
     alloc: Global,
     shard: &Shard<Book>,
     ledger: &mut Ledger<S>,
 ) -> Result<Open, Fault> {
     let mut open = Open {
         unsettled: Vec::new(alloc),
+        unclosed: BTreeMap::new(alloc),
         closes: BTreeSet::new(alloc),
     };
     let mut closed = Closed {
         weeks: BTreeMap::new(alloc),
+        last: 0,
     };
     let weeks = posted_weeks(alloc, shard, ledger, &mut closed)?;
     for week in &weeks {
@@ -290,17 +320,18 @@ fn posted_week<S: Alter>(
 }
 
 impl Open {
-    /// Looks whether a week is settled that was closed.
+    /// Looks whether a week is settled that was closed, and whether it has days that no close has reached.
     fn look_at(
         &mut self,
         shard: &Shard<Book>,
         closed: &Closed,
         posted: PostedWeek,
     ) -> Result<(), Fault> {
-        if let Some(through) = closed.through(posted.week) {
-            if let Some(account) = shard.account(posted.account) {
+        if let Some(account) = shard.account(posted.account) {
+            if let Some(through) = closed.through(posted.week) {
                 self.put(account, shard.editions(), through, posted)?;
             }
+            self.put_unclosed(account, closed.of(posted.week))?;
         }
         Ok(())
     }
@@ -323,6 +354,24 @@ impl Open {
         if let Some(it) = found {
             self.unsettled.push(it).map_err(AllocError::from)?;
             self.closes.insert(through).map_err(AllocError::from)?;
+        }
+        Ok(())
+    }
+}
+
+impl Open {
+    /// Counts an account in a week, if it has a day there that no close has reached. A close through its Sunday reaches it.
+    fn put_unclosed<F: Fares>(&mut self, account: &F, closed: WeekClosed) -> Result<(), AllocError>
+        ensures unchanged { OnOk result (is_unclosed closed (sets (F.account account.now) (F.accepted account.now)) ≡ false → self.new ≡ self.old) }
+        ensures settled { self.new.unsettled ≡ self.old.unsettled }
+    {
+        if is_unclosed(account, closed)? {
+            let before = match self.unclosed.get(&closed.week) {
+                Some(accounts) => *accounts,
+                None => 0,
+            };
+            self.unclosed.insert(closed.week, before.saturating_add(1))?;
+            self.closes.insert(closed.week.saturating_add(6))?;
         }
         Ok(())
     }
