@@ -1,11 +1,14 @@
 pub mod Begun
 pub mod GatesKept
 pub mod Going
+pub mod LeftGates
 pub mod LinesAsked
 pub mod NoneKept
 pub mod OneClose
+pub mod OneTold
 pub mod Runs
 pub mod ServeCauses
 pub mod Served
 pub mod TakenAgain
 pub mod ToldCloses
+pub mod TriedOver

@@ -12,8 +12,6 @@ use Rattle.pay_lanes.specs.Words.{LaneParts, IsSameLane, IsNewLane}
 use Rattle.pay_office.specs.Words.{LaneDeskParts, all_sent, commands_sent, NoneIsHidden}
 use Rattle.pay_office.specs.Waits.{entry_under, command_beside, commands_below}
 use Rattle.pay_serve.specs.Lanes.{HasAskedIn, HasGoneOn}
-use Rattle.pay_serve.specs.TriedLanes.{IsTried, GivesBack}
-use Rattle.pay_serve.specs.declared.lanes.Tried.{Tried}
 
 -- ---- one after another
 
@@ -103,14 +101,3 @@ module _ (zone : TimeZone) where
   all_same [] (k ∷ ks) gone = absurd gone
   all_same (l ∷ ls) [] gone = absurd gone
   all_same (l ∷ ls) (k ∷ ks) gone = (gone.0.same, all_same ls ks gone.1)
-
-  -- lanes that were tried, and came back
-  pub all_gone : (ls ks : List LaneParts) (ts : List Tried) → AllZip (IsTried zone) ls ts → AllZip GivesBack ts ks → AllZip (HasGoneOn zone) ls ks
-  all_gone [] [] [] tried back = tt
-  all_gone [] [] (t ∷ ts) tried back = absurd tried
-  all_gone [] (k ∷ ks) [] tried back = absurd back
-  all_gone [] (k ∷ ks) (t ∷ ts) tried back = absurd tried
-  all_gone (l ∷ ls) [] [] tried back = absurd tried
-  all_gone (l ∷ ls) [] (t ∷ ts) tried back = absurd back
-  all_gone (l ∷ ls) (k ∷ ks) [] tried back = absurd tried
-  all_gone (l ∷ ls) (k ∷ ks) (t ∷ ts) tried back = (back.0 zone l tried.0, all_gone ls ks ts tried.1 back.1)

@@ -1,4 +1,5 @@
 pub mod Addresses
+pub mod Begins
 pub mod Causes
 pub mod Closes
 pub mod Journals
@@ -6,6 +7,7 @@ pub mod Keeping
 pub mod KeepingGates
 pub mod Kept
 pub mod Lanes
+pub mod LeftGates
 pub mod Machines
 pub mod TriedLanes
 pub mod Words

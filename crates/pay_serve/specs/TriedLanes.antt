@@ -1,15 +1,48 @@
 -- Lanes for which threads were asked.
-use Rattle.std.specs.Prelude.{◌≡◌, IfOk, IfErr}
+use Rattle.std.specs.Prelude.{◌≡◌, Bool, List, [], ◌∷◌, ◌++◌, Option, Some, None, Result, Ok, Err, IfOk, IfErr}
 use Rattle.jiff.specs.declared.tz.timezone.TimeZone.{TimeZone}
 use Rattle.pay_lanes.specs.Words.{LaneParts}
-use Rattle.pay_serve.specs.Lanes.{HasGoneOn}
+use Rattle.pay_serve.specs.Begins.{LineParts, HasGoneIf}
+use Rattle.pay_serve.specs.declared.begins.LaneFault.{LaneFault}
+use Rattle.pay_serve.specs.declared.threads.Begun.{Begun}
+use Rattle.pay_serve.specs.declared.threads.Going.{Going}
+use Rattle.pay_serve.specs.declared.threads.GoesOn.{GoesOn}
 use Rattle.pay_serve.specs.declared.lanes.Tried.{Tried}
+use Rattle.pay_serve.specs.declared.lanes.Informed.{Informed}
 
--- A lane has a thread, which gives it back once it has gone on in a zone; or it is still here, and has gone on.
+-- why the thread of a lane was refused, if it was
+abbrev pub refused_of : {A B : Type 0} → Result A (LaneFault × B) → Option LaneFault
+refused_of (Ok there) = None
+refused_of (Err here) = Some here.0
+
+-- the first of two, where there is one
+abbrev pub first_of : {A : Type 0} → Option A → Option A → Option A
+first_of (Some a) other = Some a
+first_of None other = other
+
+-- why the first thread that was refused was so
+abbrev pub first_refused : List Tried → Option LaneFault
+first_refused [] = None
+first_refused (t ∷ tried) = first_of (refused_of t.lane) (first_refused tried)
+
+-- a promise that is of this lane, in a zone
+abbrev pub IsPromised : TimeZone → LaneParts → GoesOn → Type 0
+IsPromised zone lane it = (it.zone ≡ zone) × (it.began.value.lane ≡ lane)
+
+-- A lane has a thread, which was not told yet whether it begins; or it is still here, as it was.
 pub record IsTried (zone : TimeZone) (lane : LaneParts) (tried : Tried) : Type 0 where
-  pub there : IfOk tried.lane (λ there. (there.promise.zone ≡ zone) × (there.promise.began.value ≡ lane))
-  pub here : IfErr tried.lane (HasGoneOn zone lane)
+  pub there : IfOk tried.lane (λ (b : Begun). IsPromised zone lane b.thread.promise)
+  pub here : IfErr tried.lane (λ e. e.1 ≡ lane)
 
--- the lane that comes back of what was tried has gone on
-abbrev pub GivesBack : Tried → LaneParts → Type 0
-GivesBack tried after = (zone : TimeZone) (lane : LaneParts) → IsTried zone lane tried → HasGoneOn zone lane after
+-- A lane has a thread, which was told whether it begins; or it is still here, as it was.
+pub record IsInformed (begins : Bool) (zone : TimeZone) (lane : LaneParts) (informed : Informed) : Type 0 where
+  pub there : IfOk informed.lane (λ (g : Going). IsPromised zone lane g.thread.promise × (g.told.told ≡ begins ∷ []))
+  pub here : IfErr informed.lane (λ l. l ≡ lane)
+
+-- what was tried is told whether it begins
+abbrev pub IsToldOf : Bool → Tried → Informed → Type 0
+IsToldOf begins tried informed = (zone : TimeZone) (lane : LaneParts) → IsTried zone lane tried → IsInformed begins zone lane informed
+
+-- the lane that comes back of what was told has gone on by that
+abbrev pub GivesBack : Informed → LaneParts → Type 0
+GivesBack informed after = (begins : Bool) (zone : TimeZone) (lane : LaneParts) → IsInformed begins zone lane informed → HasGoneIf begins zone lane after

@@ -1,77 +1,68 @@
 //! The lanes, each in a thread of its own.
-ghost use Rattle.std.specs.Prelude.{◌≡◌, ◌≤◌, [], All, length, vec_capacity};
+ghost use Rattle.std.specs.Prelude.{◌≡◌, ◌≤◌, ◌<◌, [], None, true, All, IfOk, IfSome, length, vec_capacity};
 ghost use Rattle.std.specs.List.{AllZip};
+ghost use Rattle.pay_serve.specs.Begins.{HasServed};
 ghost use Rattle.pay_serve.specs.Lanes.{HasShards, HasGoneOn};
-ghost use Rattle.pay_serve.specs.TriedLanes.{IsTried, GivesBack};
+ghost use Rattle.pay_serve.specs.TriedLanes.{IsTried, IsToldOf, GivesBack, first_of, first_refused, refused_of};
 
 use crate::begins::{Begins, LaneFault};
+use crate::threads::{Begun, GoesOn, Going, Serving};
 use crate::connection::serve_lane;
 use jiff::tz::TimeZone;
 use pay_office::Lane;
-use std::alloc::Global;
+use std::alloc::{AllocError, Global};
 use std::net::TcpListener;
 use std::snapshot::Snapshot;
-use std::sync::{Arc, Wait};
+use std::sync::Wait;
 use std::thread;
-use std::thread::{Promise, PromisedHandle, Threads};
+use std::thread::Threads;
 
-/// That a lane goes on as the same end of the same queues, and sends nothing but what lines ask for in a zone.
-#[derive(Drop)]
-pub struct GoesOn {
-    began: Snapshot<Lane>,
-    zone: TimeZone<'static>,
-}
-
-impl Promise<Lane> for GoesOn {
-    ghost use Rattle.pay_serve.specs.Lanes.{HasGoneOn};
-
-    ghost kept_by = { λ it after. HasGoneOn it.zone it.began.value after };
-}
-
-/// What the threads of all lanes share.
-#[derive(Drop)]
-pub struct Service {
-    pub alloc: Global,
-    pub sessions: u32,
-    pub begins: Begins,
-}
-
-/// A lane for which a thread was asked: it is there, or still here.
+/// A lane for which a thread was asked: the thread is there, and was not told yet whether the lane begins; or the lane is still here.
 #[derive(Drop)]
 pub struct Tried {
-    lane: Result<PromisedHandle<Lane, GoesOn>, Lane>,
+    lane: Result<Begun, (LaneFault, Lane)>,
+}
+
+/// A lane for which a thread was asked, and which was told whether the lane begins; or the lane is still here.
+#[derive(Drop)]
+pub struct Informed {
+    lane: Result<Going, Lane>,
 }
 
 /// What the thread of a lane is given beside the lane.
 #[derive(Drop)]
 struct Place {
-    service: Arc<Service>,
+    alloc: Global,
+    sessions: u32,
     zone: TimeZone<'static>,
     listener: TcpListener,
 }
 
-/// Waits until it is known whether the lanes begin, and serves the connections of a place over a lane if so.
-fn serve_place<R: Wait + Copy>(rt: R, place: Place, lane: Lane) -> Lane
-    requires { HasShards lane }
-    ensures { HasGoneOn place.zone lane result }
+/// Waits until it is told whether the lane begins, and serves the connections of a place over it if so.
+fn serve_place<R: Wait + Copy>(rt: R, place: Place, serving: Serving) -> Serving
+    requires { HasShards serving.lane }
+    ensures { HasServed place.zone (serving.lane, serving.awaits) (result.lane, result.awaits) }
 {
     pay_lanes::laws::same_lanes();
     let Place {
-        service,
+        alloc,
+        sessions,
         zone,
         listener,
     } = place;
-    if !service.begins.wait(&rt) {
-        return lane;
+    let Serving { lane, mut awaits } = serving;
+    if !awaits.wait(&rt) {
+        return Serving { lane, awaits };
     }
-    let (alloc, sessions) = (service.alloc, service.sessions);
-    serve_lane(rt, alloc, &listener, sessions, &zone, lane)
+    let lane = serve_lane(rt, alloc, &listener, sessions, &zone, lane);
+    Serving { lane, awaits }
 }
 
-/// Asks for a thread for a lane, which waits until it is known whether the lanes begin.
+/// Asks for a thread for a lane, which waits until it is told whether the lane begins.
 fn begin<R>(
     rt: R,
-    service: &Arc<Service>,
+    alloc: Global,
+    sessions: u32,
     zone: TimeZone<'static>,
     listener: TcpListener,
     lane: Lane,
@@ -81,75 +72,187 @@ where
     requires { HasShards lane }
     ensures { IsTried zone.entry lane result }
 {
-    pay_lanes::laws::same_lanes();
-    let Ok(shared) = Arc::try_clone(service) else {
-        service.begins.refuse(LaneFault::Memory);
-        return Tried { lane: Err(lane) };
+    let Ok((begins, awaits)) = Begins::open(alloc) else {
+        return Tried {
+            lane: Err((LaneFault::Memory, lane)),
+        };
     };
     let place = Place {
-        service: shared,
+        alloc,
+        sessions,
         zone,
         listener,
     };
+    let serving = Serving { lane, awaits };
     let goes_on = GoesOn {
-        began: Snapshot::of(&lane),
+        began: Snapshot::of(&serving),
         zone,
     };
-    match thread::spawn_with(&rt, goes_on, move || serve_place(rt, place, lane)) {
-        Ok(there) => Tried { lane: Ok(there) },
+    match thread::spawn_with(&rt, goes_on, move || serve_place(rt, place, serving)) {
+        Ok(thread) => Tried {
+            lane: Ok(Begun { thread, begins }),
+        },
         Err(refused) => {
-            service.begins.refuse(LaneFault::NoThread);
+            let told = begins.tell(&rt, false);
             let serves = refused.value;
+            let Serving { lane, awaits } = serves();
+            told.compare(awaits);
             Tried {
-                lane: Err(serves()),
+                lane: Err((LaneFault::NoThread, lane)),
             }
         }
     }
 }
 
-/// Asks for a thread for each lane, with the listener beside it, and puts the lanes into a list that has room for them.
-pub fn begin_all<R>(
+impl Tried {
+    /// The first of a refusal before, and of that of this one.
+    fn or_refused(&self, before: Option<LaneFault>) -> Option<LaneFault>
+        ensures { result ≡ first_of before (refused_of self.now.lane) }
+    {
+        match (before, &self.lane) {
+            (None, Err((fault, _))) => Some(*fault),
+            _ => before,
+        }
+    }
+
+    /// Tells the thread whether the lane begins.
+    fn tell<R: Wait>(self, rt: &R, begins: bool) -> Informed
+        ensures { IsToldOf begins self result }
+    {
+        match self.lane {
+            Ok(Begun { thread, begins: line }) => {
+                let told = line.tell(rt, begins);
+                Informed {
+                    lane: Ok(Going { thread, told }),
+                }
+            }
+            Err((_, here)) => Informed { lane: Err(here) },
+        }
+    }
+}
+
+impl Informed {
+    /// The lane, once its thread has ended.
+    fn end<R: Threads>(self, rt: &R) -> Lane
+        ensures { GivesBack self result }
+    {
+        pay_lanes::laws::same_lanes();
+        match self.lane {
+            Ok(Going { thread, told }) => {
+                let Serving { lane, awaits } = thread.join(rt);
+                told.compare(awaits);
+                lane
+            }
+            Err(here) => here,
+        }
+    }
+}
+
+/// Asks for a thread for each lane, with the listener beside it, and puts the lanes into a list that has room for them. Why the first
+/// that was refused was so.
+fn begin_all<R>(
     rt: R,
-    service: &Arc<Service>,
+    alloc: Global,
+    sessions: u32,
     zone: TimeZone<'static>,
     listeners: Vec<TcpListener>,
     lanes: Vec<Lane>,
     tried: &mut Vec<Tried>,
-)
+) -> Option<LaneFault>
 where
     R: Threads + Wait + Copy + Send + 'static,
     requires count { length listeners.items ≡ length lanes.items }
     requires shards { All HasShards lanes.items }
     requires room { length lanes.items ≤ vec_capacity tried.old }
     requires empty { tried.old.items ≡ [] }
-    ensures { AllZip (IsTried zone.entry) lanes.items tried.new.items }
+    ensures tried { AllZip (IsTried zone.entry) lanes.items tried.new.items }
+    ensures refused { result ≡ first_refused tried.new.items }
 {
+    let mut refused = None;
     for (listener, lane) in listeners.into_iter().zip(lanes) {
-        tried.push_reserved(begin(rt, service, zone, listener, lane));
+        let one = begin(rt, alloc, sessions, zone, listener, lane);
+        refused = one.or_refused(refused);
+        tried.push_reserved(one);
     }
+    refused
 }
 
-impl Tried {
-    /// The lane, once its thread has ended.
-    fn end<R: Threads>(self, rt: &R) -> Lane
-        ensures { GivesBack self result }
-    {
-        let Tried { lane } = self;
-        match lane {
-            Ok(there) => there.join(rt),
-            Err(here) => here,
-        }
+/// Tells the threads of all lanes whether these begin, and puts them into a list that has room for them. They begin only where each
+/// has a thread.
+fn tell_all<R: Wait>(rt: &R, tried: Vec<Tried>, begins: bool, informed: &mut Vec<Informed>)
+    requires threads { begins ≡ true → first_refused tried.items ≡ None }
+    requires room { length tried.items ≤ vec_capacity informed.old }
+    requires empty { informed.old.items ≡ [] }
+    ensures { AllZip (IsToldOf begins) tried.items informed.new.items }
+{
+    for one in tried {
+        informed.push_reserved(one.tell(rt, begins));
     }
 }
 
 /// Waits until the threads of all lanes have ended, and puts the lanes into a list that has room for them.
-pub fn end_all<R: Threads>(rt: &R, tried: Vec<Tried>, lanes: &mut Vec<Lane>)
-    requires room { length tried.items ≤ vec_capacity lanes.old }
+fn end_all<R: Threads>(rt: &R, informed: Vec<Informed>, lanes: &mut Vec<Lane>)
+    requires room { length informed.items ≤ vec_capacity lanes.old }
     requires empty { lanes.old.items ≡ [] }
-    ensures lanes { AllZip GivesBack tried.items lanes.new.items }
+    ensures lanes { AllZip GivesBack informed.items lanes.new.items }
     ensures room { vec_capacity lanes.new ≡ vec_capacity lanes.old }
 {
-    for one in tried {
+    for one in informed {
         lanes.push_reserved(one.end(rt));
     }
+}
+
+/// Lists that are empty, and have room.
+#[derive(Drop)]
+struct Lists {
+    tried: Vec<Tried>,
+    informed: Vec<Informed>,
+    back: Vec<Lane>,
+}
+
+/// Room for so many lanes, and for so many that come back.
+fn room(alloc: Global, lanes: usize, back: usize) -> Result<Lists, AllocError>
+    ensures tried { IfOk result (λ room. (lanes ≤ vec_capacity room.tried) × (room.tried.items ≡ [])) }
+    ensures informed { IfOk result (λ room. (lanes ≤ vec_capacity room.informed) × (room.informed.items ≡ [])) }
+    ensures back { IfOk result (λ room. (back ≤ vec_capacity room.back) × (room.back.items ≡ [])) }
+{
+    let tried = Vec::with_capacity(alloc, lanes)?;
+    let informed = Vec::with_capacity(alloc, lanes)?;
+    let back = Vec::with_capacity(alloc, back)?;
+    Ok(Lists { tried, informed, back })
+}
+
+/// Serves the connections of lanes, each lane's at the listener beside it and in a thread of its own, one after another, until all
+/// have ended. The lanes come back in their order, each the same end of the same queues, and have sent nothing but what lines ask for.
+/// Where one gets no thread, none begins: they come back as they were, with why the first was refused one.
+pub fn serve_lanes<R>(
+    rt: R,
+    alloc: Global,
+    sessions: u32,
+    zone: TimeZone<'static>,
+    listeners: Vec<TcpListener>,
+    lanes: Vec<Lane>,
+) -> (Option<LaneFault>, Vec<Lane>)
+where
+    R: Threads + Wait + Copy + Send + 'static,
+    requires count { length listeners.items ≡ length lanes.items }
+    requires shards { All HasShards lanes.items }
+    requires room { length lanes.items < vec_capacity lanes }
+    ensures served { AllZip (HasGoneOn zone.entry) lanes.items result.1.items }
+    ensures unserved { IfSome result.0 (λ _. result.1.items ≡ lanes.items) }
+    ensures room { length result.1.items < vec_capacity result.1 }
+{
+    pay_lanes::laws::same_lanes();
+    let Ok(made) = room(alloc, lanes.len(), lanes.capacity()) else {
+        return (Some(LaneFault::Memory), lanes);
+    };
+    let Lists {
+        mut tried,
+        mut informed,
+        mut back,
+    } = made;
+    let refused = begin_all(rt, alloc, sessions, zone, listeners, lanes, &mut tried);
+    tell_all(&rt, tried, refused.is_none(), &mut informed);
+    end_all(&rt, informed, &mut back);
+    (refused, back)
 }

@@ -19,13 +19,16 @@ mod listening;
 mod plan;
 mod service;
 mod sides;
+mod threads;
 
 pub use closing::{close_day, close_over};
 pub use connection::{serve_connections, serve_lane};
+pub use begins::LaneFault;
 pub use fault::ServeFault;
 pub use gate::KeepingGate;
 pub use given::Given;
 pub use journals::{take_again, take_through};
+pub use lanes::serve_lanes;
 pub use listening::listen;
 pub use plan::Plan;
-pub use service::serve;
+pub use service::{serve, serve_gated};

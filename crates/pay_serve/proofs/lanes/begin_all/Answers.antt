@@ -1,7 +1,7 @@
 use Rattle.std.proofs.Common.{◌≡◌, ◌≤◌, ◌<◌, ◌∙◌, All, ap, rules, arith, sym, subst, length, vec_capacity}
 use Rattle.pay_serve.specs.Lanes.{HasShards}
-use Rattle.pay_serve.specs.TriedLanes.{IsTried}
-use Rattle.pay_serve.proofs.Begun.{none_tried, next_tried, room_left}
+use Rattle.pay_serve.specs.TriedLanes.{IsTried, first_refused}
+use Rattle.pay_serve.proofs.TriedOver.{none_tried, next_tried, room_left, one_more_counted}
 use Rattle.pay_serve.proofs.lanes.begin_all.Goals as goal
 
 -- none was tried
@@ -13,6 +13,7 @@ loop-listener-init g c =
       none_tried HasShards (IsTried c.args.zone) c.args.tried.now.items it.a.rest.items it.b.rest.items c.args.lanes.items c.requires.empty lanes
           (ap length listeners ∙ (c.requires.count ∙ sym (ap length lanes))) (subst (All HasShards) (sym lanes) c.requires.shards),
       c.requires.room,
+      ap first_refused (sym c.requires.empty),
     )
 
 -- one more lane
@@ -21,8 +22,9 @@ loop-listener-preserved g c =
     let was = c.loop-listener.invariant in (
       next_tried HasShards (IsTried c.args.zone) c.loop-listener.tried.items c.push_reserved.new.self.items c.args.lanes.items
           c.loop-listener.listener-iterator.a.rest.items c.next.new.self.a.rest.items c.loop-listener.listener-iterator.b.rest.items c.next.new.self.b.rest.items
-          c.in-Some.listener c.in-Some.lane c.begin.result c.in-Some.ensures.steps.0.0 c.in-Some.ensures.steps.1.0 c.begin.ensures c.push_reserved.ensures.items was.0,
+          c.in-Some.listener c.in-Some.lane c.begin-one.result c.in-Some.ensures.steps.0.0 c.in-Some.ensures.steps.1.0 c.begin-one.ensures c.push_reserved.ensures.items was.0,
       subst (λ n. length c.args.lanes.items ≤ n) (sym c.push_reserved.ensures.capacity) was.1,
+      one_more_counted c.loop-listener.tried.items c.push_reserved.new.self.items c.begin-one.result c.loop-listener.refused c.or_refused-refused.result was.2 c.or_refused-refused.ensures c.push_reserved.ensures.items,
     )
 
 pub push_reserved-requires : goal.push_reserved-requires

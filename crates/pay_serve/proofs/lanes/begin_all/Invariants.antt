@@ -1,7 +1,7 @@
-use Rattle.std.proofs.Common.{◌≤◌, length, vec_capacity}
+use Rattle.std.proofs.Common.{◌≡◌, ◌≤◌, length, vec_capacity}
 use Rattle.pay_serve.specs.Lanes.{HasShards}
-use Rattle.pay_serve.specs.TriedLanes.{IsTried}
-use Rattle.pay_serve.proofs.Begun.{AreTriedSoFar}
+use Rattle.pay_serve.specs.TriedLanes.{IsTried, first_refused}
+use Rattle.pay_serve.proofs.TriedOver.{AreTriedSoFar}
 use Rattle.pay_serve.proofs.lanes.begin_all.Given as goal
 
 -- the lanes so far were tried, and each of the others has its listener
@@ -9,3 +9,4 @@ abbrev pub invariant-loop-listener : goal.invariant-loop-listener
 invariant-loop-listener g l =
     AreTriedSoFar HasShards (IsTried l.fn.zone) l.fn.lanes.items l.tried.items l.listener-iterator.a.rest.items l.listener-iterator.b.rest.items
     × (length l.fn.lanes.items ≤ vec_capacity l.tried)
+    × (l.refused ≡ first_refused l.tried.items)
