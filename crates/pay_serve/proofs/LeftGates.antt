@@ -1,5 +1,5 @@
 -- What gates a service leaves, by the call that ended it.
-use Rattle.std.proofs.Common.{◌≡◌, inl, inr, ℕ, Bool, true, false, List, [], All, Option, Result, Ok, Err, refl, sym, subst}
+use Rattle.std.proofs.Common.{◌≡◌, inl, inr, ℕ, Bool, true, false, List, [], All, Option, Result, Ok, Err, sym, subst}
 use Rattle.std.proofs.lemmas.List.Elements.{All-nil}
 use Rattle.pay_wire.specs.declared.output.WriteFault.{WriteFault}
 use Rattle.pay_serve.specs.Causes.{IsUnopened, IsUnserved}

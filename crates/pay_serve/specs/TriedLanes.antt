@@ -1,8 +1,8 @@
 -- Lanes for which threads were asked.
-use Rattle.std.specs.Prelude.{◌≡◌, Bool, List, [], ◌∷◌, ◌++◌, Option, Some, None, Result, Ok, Err, IfOk, IfErr}
+use Rattle.std.specs.Prelude.{◌≡◌, Bool, List, [], ◌∷◌, Option, Some, None, Result, Ok, Err, IfOk, IfErr}
 use Rattle.jiff.specs.declared.tz.timezone.TimeZone.{TimeZone}
 use Rattle.pay_lanes.specs.Words.{LaneParts}
-use Rattle.pay_serve.specs.Begins.{LineParts, HasGoneIf}
+use Rattle.pay_serve.specs.Begins.{HasGoneIf}
 use Rattle.pay_serve.specs.declared.begins.LaneFault.{LaneFault}
 use Rattle.pay_serve.specs.declared.threads.Begun.{Begun}
 use Rattle.pay_serve.specs.declared.threads.Going.{Going}

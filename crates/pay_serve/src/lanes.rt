@@ -6,8 +6,8 @@ ghost use Rattle.pay_serve.specs.Lanes.{HasShards, HasGoneOn};
 ghost use Rattle.pay_serve.specs.TriedLanes.{IsTried, IsToldOf, GivesBack, first_of, first_refused, refused_of};
 
 use crate::begins::{Begins, LaneFault};
-use crate::threads::{Begun, GoesOn, Going, Serving};
 use crate::connection::serve_lane;
+use crate::threads::{Begun, GoesOn, Going, Serving};
 use jiff::tz::TimeZone;
 use pay_office::Lane;
 use std::alloc::{AllocError, Global};
@@ -120,7 +120,12 @@ impl Tried {
         ensures { IsToldOf begins self result }
     {
         match self.lane {
-            Ok(Begun { thread, begins: line }) => {
+            Ok(
+                Begun {
+                    thread,
+                    begins: line,
+                },
+            ) => {
                 let told = line.tell(rt, begins);
                 Informed {
                     lane: Ok(Going { thread, told }),
@@ -219,7 +224,11 @@ fn room(alloc: Global, lanes: usize, back: usize) -> Result<Lists, AllocError>
     let tried = Vec::with_capacity(alloc, lanes)?;
     let informed = Vec::with_capacity(alloc, lanes)?;
     let back = Vec::with_capacity(alloc, back)?;
-    Ok(Lists { tried, informed, back })
+    Ok(Lists {
+        tried,
+        informed,
+        back,
+    })
 }
 
 /// Serves the connections of lanes, each lane's at the listener beside it and in a thread of its own, one after another, until all

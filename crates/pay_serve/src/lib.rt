@@ -21,9 +21,9 @@ mod service;
 mod sides;
 mod threads;
 
+pub use begins::LaneFault;
 pub use closing::{close_day, close_over};
 pub use connection::{serve_connections, serve_lane};
-pub use begins::LaneFault;
 pub use fault::ServeFault;
 pub use gate::KeepingGate;
 pub use given::Given;

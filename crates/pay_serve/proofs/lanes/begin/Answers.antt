@@ -1,4 +1,4 @@
-use Rattle.std.proofs.Common.{◌≡◌, sym, subst}
+use Rattle.std.proofs.Common.{sym, subst}
 use Rattle.std.proofs.iter.Serving.{serving}
 use Rattle.pay_serve.specs.Begins.{HasServed}
 use Rattle.pay_serve.specs.declared.threads.Serving.{Serving}

@@ -1,4 +1,4 @@
-use Rattle.std.proofs.Common.{◌≤◌, ◌<◌, length, vec_capacity, arith}
+use Rattle.std.proofs.Common.{arith}
 use Rattle.std.proofs.lemmas.Slice.Zip.{AllZip-long}
 use Rattle.pay_serve.specs.TriedLanes.{IsTried, IsToldOf, GivesBack}
 use Rattle.pay_serve.proofs.TriedOver.{all_gone, all_stay, none_gone}

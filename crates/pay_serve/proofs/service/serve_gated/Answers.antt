@@ -1,4 +1,4 @@
-use Rattle.std.proofs.Common.{◌≡◌, ◌≤◌, inl, Option, IfSome, All, List, map, vec_items, length, ◌∙◌, sym, subst, arith}
+use Rattle.std.proofs.Common.{◌≡◌, ◌≤◌, inl, Option, IfSome, All, List, map, vec_items, length, ◌∙◌, sym, subst}
 use Rattle.std.proofs.lemmas.Result.{err_from_is_err_and}
 use Rattle.pay_shard.specs.declared.limits.TheConstants.{MOST_SHARDS}
 use Rattle.pay_journal.specs.Words.{CanFail}
@@ -11,7 +11,7 @@ use Rattle.pay_serve.proofs.Going.{all_back, lanes_same}
 use Rattle.pay_serve.proofs.LeftGates.{unopened_left, refused_left, lane_left, told_left}
 use Rattle.pay_serve.proofs.LinesAsked.{all_same, all_asked}
 use Rattle.pay_serve.proofs.NoneKept.{none_kept}
-use Rattle.pay_serve.proofs.ServeCauses.{within_plan, no_memory, unopened, unopened_stopped, lane_stopped, line_stopped, told_stopped, unserved_cause, lane_cause, taken_cause, told_cause, told_on_ok}
+use Rattle.pay_serve.proofs.ServeCauses.{within_plan, unopened, unopened_stopped, lane_stopped, line_stopped, told_stopped, unserved_cause, lane_cause, taken_cause, told_cause, told_on_ok}
 use Rattle.pay_serve.proofs.Served.{all_kept}
 use Rattle.pay_serve.proofs.service.serve_gated.Goals as goal
 

@@ -1,4 +1,4 @@
-use Rattle.std.proofs.Common.{◌≡◌, sym, ap, ◌∙◌, subst}
+use Rattle.std.proofs.Common.{ap, subst}
 use mathlib.Core.List.{IsPrefix}
 use Rattle.pay_mailbox.specs.Words.{HasFirst}
 use Rattle.pay_serve.proofs.OneTold.{all_one, first_got}
