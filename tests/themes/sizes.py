@@ -6,6 +6,7 @@ import random
 
 from oracle import rules
 from support.fares import MOST_FIXES, MOST_TAPS
+from support.ledgers import with_ledger
 from support.repository import RUN_SAMPLE
 from support.running import A_DAY, MONDAY, RUN, SEVEN, answers, boardings, in_lines, play, run, run_file, written
 from support.serving import closed, ended, serving, side_by_side, talk_ahead
@@ -80,6 +81,86 @@ class ManyAccounts(Theme):
             wanted = in_lines(closed_with(dict.fromkeys(accounts, (1, 175, 175))))
             self.check(
                 f"{ACCOUNTS:,} accounts over lanes", came._replace(output=it.read()), closed(port, lanes, wanted)
+            )
+
+
+# A boarding pays so much, and falls to operator 4: there is no cap that it comes to.
+FARE = 175
+CLOSED_WEEKS = 29
+
+
+def boarded_on(number, seq):
+    """The line of account 7's boarding on the day of this number, counted from the Monday."""
+    return f"TAP 1 {seq} 7 {SEVEN + A_DAY * number} 50 BUS"
+
+
+def week_of(number):
+    """The Monday of a day, and how many days of its week there are through it."""
+    return MONDAY + number - number % 7, number % 7 + 1
+
+
+class ManyCloses(Theme):
+    """An account that is closed on each day of many weeks."""
+
+    def test_many_closes(self):
+        """It boards once a day, and each day is closed: the next fare of its week is posted. Then a boarding of the last
+        week is voided, and given back; and a session that goes on with the same files posts nothing more."""
+        pairs, last = [], 7 * CLOSED_WEEKS - 1
+        for number in range(last + 1):
+            monday, days = week_of(number)
+            day, due, version = MONDAY + number, FARE * days, number + 1
+            pairs += [
+                (boarded_on(number, version), f"OK {day} {FARE} {due}"),
+                (f"CLOSE {day}", f"PAY 7 {monday} {day} {version} {due} {FARE} 4={FARE}\nDONE {day} 1"),
+            ]
+        monday, day, due = MONDAY + last - 6, MONDAY + last, 6 * FARE
+        given_back = f"PAY 7 {monday} {day} {last + 2} {due} -{FARE} 4=-{FARE}\nDONE {day} 1"
+        pairs += [(f"FIX 3 1 7 VOID 1 {last - 5}", f"OK {monday} 0 {due}"), (f"CLOSE {day}", given_back)]
+        words = with_ledger(*(os.path.join(self.folder, name) for name in ("ledger", "journal")))
+        self.check(f"an account closed {last + 2} times", *play(words, pairs))
+        asked = [(f"CLOSE {day}", given_back), (f"DUE 7 {day}", f"DUE 7 {monday} {day} {last + 2} {due} 4={due}")]
+        self.check("the next session", *play(words, asked))
+
+
+class ManyDays(Theme):
+    """An account that is used on as many days as it may have taps."""
+
+    def test_many_days(self):
+        """It boards once on each of these days, which come in no order. Then what is due for some weeks is asked for."""
+        pairs, paid = [], [0] * (MOST_TAPS // 7 + 1)
+        for seq, number in enumerate(random.Random(5).sample(range(MOST_TAPS), MOST_TAPS), 1):
+            paid[number // 7] += FARE
+            pairs.append((boarded_on(number, seq), f"OK {MONDAY + number} {FARE} {paid[number // 7]}"))
+        for number in (0, 6, 7, MOST_TAPS // 2, MOST_TAPS - 2, MOST_TAPS - 1):
+            monday, days = week_of(number)
+            asked = f"DUE 7 {MONDAY + number}"
+            pairs.append((asked, f"DUE 7 {monday} {MONDAY + number} {MOST_TAPS} {FARE * days} 4={FARE * days}"))
+        self.check(f"an account of {MOST_TAPS:,} days", *play(RUN, pairs))
+
+
+class LongJournals(Theme):
+    """A shard that is asked much."""
+
+    def test_long_journal(self):
+        """Four lanes ask one shard for 200,000 boardings, each for 250 accounts and for each of these 200 times."""
+        lanes, of_each, times = 4, 250, 200
+        path = os.path.join(self.folder, "replies")
+        with open(path, "wb") as it, serving(lanes, 1, 1, stdout=it) as (ran, port, said):
+            replies = side_by_side([
+                lambda lines=[
+                    f"{boarded(account)}\n".encode() for account in range(first + 1, first + of_each + 1)
+                ] * times, lane=lane: talk_ahead(port + lane, lines)
+                for lane, first in enumerate(range(0, lanes * of_each, of_each))
+            ])
+            came = ended(ran, said)
+        wanted = in_lines([*[BOARDED] * of_each, *[f"AGAIN {MONDAY} {FARE} {FARE}"] * (of_each * (times - 1)), "BYE"])
+        for lane, text in enumerate(replies):
+            self.check(f"replies on lane {lane}", answers(text), answers(wanted))
+        with open(path, "rb") as it:
+            written_of_close = in_lines(closed_with(dict.fromkeys(range(1, lanes * of_each + 1), (1, FARE, FARE))))
+            self.check(
+                f"{lanes * of_each * times:,} commands to a shard", came._replace(output=it.read()),
+                closed(port, lanes, written_of_close),
             )
 
 
