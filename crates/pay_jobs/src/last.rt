@@ -1,7 +1,7 @@
 //! The last posting, as it is noted beside a journal.
-ghost use Rattle.std.specs.Prelude.{◌≡◌, true, IfOk, IfSome};
+ghost use Rattle.std.specs.Prelude.{◌≡◌, true, None, IfOk, IfSome};
 ghost use Rattle.std.specs.String.{string_bytes};
-ghost use Rattle.pay_ledger.specs.Words.{ChangesNothing, AnswersOfLedger, RefusesOfLedger, has_posting};
+ghost use Rattle.pay_ledger.specs.Words.{ChangesNothing, AnswersOfLedger, RefusesOfLedger, AnswersOfRows, RefusesOfRows, has_posting, has_row};
 ghost use Rattle.pay_jobs.specs.Last.{IsLacking, posting_text};
 
 use crate::fault::{Fault, FileFault};
@@ -9,7 +9,8 @@ use pay_ledger::{LastPosting, Ledger};
 use sqlite::Alter;
 use std::alloc::{AllocError, Global};
 
-/// A posting as it is noted: a line with the account, the week, the day through which it is, and the version.
+/// A posting as it is noted: a line with the account, the week, the day through which it is, the version, and its number in the ledger, if
+/// that is known.
 pub fn text_of_posting(alloc: Global, posting: &LastPosting) -> Result<String, AllocError>
     ensures { IfOk result (λ text. string_bytes text ≡ posting_text posting.now) }
 {
@@ -18,23 +19,31 @@ pub fn text_of_posting(alloc: Global, posting: &LastPosting) -> Result<String, A
         week,
         through,
         version,
+        id,
     } = *posting;
     let mut text = String::new(alloc);
-    write!(text, "{account} {week} {through} {version}\n")?;
+    match id {
+        Some(id) => write!(text, "{account} {week} {through} {version} {id}\n")?,
+        None => write!(text, "{account} {week} {through} {version}\n")?,
+    }
     Ok(text)
 }
 
-/// The four numbers of a line.
+/// The numbers of a line: five, or four of an earlier version, which did not note the number in the ledger.
 fn numbers_of(text: &str) -> Option<LastPosting> {
-    let (account, rest) = text.split_once(' ')?;
+    let (account, rest) = text.strip_suffix('\n')?.split_once(' ')?;
     let (week, rest) = rest.split_once(' ')?;
     let (through, rest) = rest.split_once(' ')?;
-    let version = rest.strip_suffix('\n')?;
+    let (version, id) = match rest.split_once(' ') {
+        Some((version, id)) => (version, Some(id.parse().ok()?)),
+        None => (rest, None),
+    };
     Some(LastPosting {
         account: account.parse().ok()?,
         week: week.parse().ok()?,
         through: through.parse().ok()?,
         version: version.parse().ok()?,
+        id,
     })
 }
 
@@ -54,8 +63,10 @@ pub fn posting_of_text(alloc: Global, text: &str) -> Result<Option<LastPosting>,
 
 /// That a ledger has the posting that is noted beside its journal, or why it is not taken.
 pub fn take_noted<S: Alter>(ledger: &mut Ledger<S>, noted: &LastPosting) -> Result<(), Fault>
-    ensures known { AnswersOfLedger S.Store ledger.old ledger.new result (λ parts _. has_posting noted.now parts.postings ≡ true) }
-    ensures lacks { RefusesOfLedger S.Store ledger.old ledger.new result (λ parts fault. IsLacking noted.now parts fault) }
+    ensures known { AnswersOfRows S.Store ledger.old ledger.new result (λ rows _. has_row noted.now rows ≡ true) }
+    ensures made { AnswersOfLedger S.Store ledger.old ledger.new result (λ parts _. has_posting noted.now parts.postings ≡ true) }
+    ensures lacks { RefusesOfRows S.Store ledger.old ledger.new result (λ rows fault. IsLacking noted.now fault (has_row noted.now rows)) }
+    ensures not_made { RefusesOfLedger S.Store ledger.old ledger.new result (λ parts fault. noted.now.id ≡ None → IsLacking noted.now fault (has_posting noted.now parts.postings)) }
     ensures unchanged { ChangesNothing S.Store ledger.old ledger.new }
 {
     match ledger.has(noted) {
