@@ -342,7 +342,7 @@ class Audits(Theme):
             os.path.join(self.folder, "notes"), "CREATE TABLE notes (text TEXT)", "INSERT INTO notes VALUES ('as it was')"
         )
         others_database(os.path.join(self.folder, "bare"), "PRAGMA user_version = 7")
-        before = all_files(self.folder)
+        before, there = all_files(self.folder), sorted(os.listdir(self.folder))
         for name, ledger, wanted in (
             ("no file", "none", "no such ledger"), ("a byte", "byte", "no such ledger"),
             ("a database of others", "notes", "40 NotALedger"), ("one without tables", "bare", "40 NotALedger"),
@@ -352,9 +352,14 @@ class Audits(Theme):
                 f"a rebuild of {name}", run(["rebuild", RUN[1], os.path.join(self.folder, ledger)]), fault(wanted)
             )
             self.check(
-                f"after {name} all is there, and no more",
+                f"after {name} all is there",
                 answers(repr(all_files(self.folder)).encode()),
                 answers(repr(before).encode()),
+            )
+            self.check(
+                f"and no more after {name}, nor a log",
+                answers(repr(sorted(os.listdir(self.folder))).encode()),
+                answers(repr(there).encode()),
             )
         # A session may still make its ledger there.
         self.check(

@@ -8,6 +8,7 @@ ghost use Rattle.sqlite.specs.WalFiles.{image_at};
 ghost use Rattle.pay_ledger_files.specs.Files.{fault_of_file, IsUnopened, IsOpenedOf, IsNotOpenedFrom, IsExistingOf, IsNotExistingIn};
 ghost use Rattle.pay_ledger.specs.Words.{IsLedger, nothing};
 
+use crate::log::{has_log, remove_empty_log};
 use crate::opening::{has_meta, ledger_of};
 use pay_disk::open_database;
 use pay_ledger::{Ledger, OpenFault};
@@ -60,8 +61,8 @@ pub fn open_file<S: Start>(
 }
 
 /// The same of a ledger that is there already: nothing is made where a database has none of its tables, which is `NotALedger` too, and
-/// stays as it is. One of version 1 becomes one of version 2, as in [`open_file`]. The caller sees to it that the file is there: where
-/// it is not, it is made, with a database without tables.
+/// stays as it is; a log that was made beside it is removed. One of version 1 becomes one of version 2, as in [`open_file`]. The caller
+/// sees to it that the file is there: where it is not, it is made, with a database without tables.
 pub fn open_existing<S: Start>(
     rt: &HostRuntime,
     path: &str,
@@ -70,8 +71,12 @@ pub fn open_existing<S: Start>(
     ensures opened { IfOk result (λ ledger. IsExistingOf over_files (FindsIn (image_at S.Start)) ledger) }
     ensures refused { IsNotExistingIn (image_at S.Start) result }
 {
+    let had_log = has_log(rt, path);
     let conn = database_at(rt, path, start)?;
     if !has_meta(&conn) {
+        if !had_log {
+            remove_empty_log(rt, path);
+        }
         return Err(OpenFault::NotALedger);
     }
     match ledger_of(rt.alloc(), conn) {

@@ -3,6 +3,7 @@
 #![tactic(auto)]
 
 mod file;
+mod log;
 mod memory;
 mod opening;
 
