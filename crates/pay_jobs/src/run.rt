@@ -96,6 +96,7 @@ impl Begun {
             replayed: _,
         } = self;
         take_with(alloc, ledger, desk.shard())?;
+        watch.begins();
         Ok(run_lines(alloc, reader, writer, &zone, desk, keeper, ledger, watch))
     }
 
