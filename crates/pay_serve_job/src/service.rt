@@ -115,6 +115,7 @@ where
     ensures cause { IfErr result (λ fault. HasServiceCause W.MayAnswer (CanFail K.HasFailed) given.entry.plan fault writer.new) }
 {
     take_given(alloc, &given.editions, &given.zone, given.texts, ledger)?;
+    watch.begins();
     let listeners = match listen(&rt, alloc, &given.plan) {
         Ok(listeners) => listeners,
         Err(why) => return Err(fault_of(why)),
