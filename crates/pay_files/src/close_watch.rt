@@ -8,7 +8,8 @@ use std::io::Eprint;
 use std::rt::{Clock, Files};
 
 /// Watches the closes into a ledger in a file: a day that is not over by the clock is not closed, unless that is asked for; what is refused
-/// is reported to standard error; and the last posting is noted beside the journal, if there is one.
+/// is reported to standard error; and the last posting is noted beside the journal, if there is one, when a session begins and after each
+/// close.
 #[derive(Drop)]
 pub struct CloseWatch<R> {
     /// Where files, standard error and the clock are.
@@ -19,6 +20,8 @@ pub struct CloseWatch<R> {
     early: bool,
     /// Where the last posting is noted.
     noted: Option<NotedPosting>,
+    /// The newest posting of the ledger that was taken, if it is to be noted.
+    newest: Option<LastPosting>,
     /// Whether a close was refused, or a posting was not noted.
     pub has_failed: bool,
 }
@@ -38,18 +41,22 @@ impl<R: AllocGlobal + Copy> CloseWatch<R> {
             zone: text,
             early,
             noted,
+            newest: None,
             has_failed: false,
         })
     }
 }
 
 impl<R: Files<File = File> + Clock + Eprint + AllocGlobal> CloseWatch<R> {
-    /// Takes a ledger that has the posting that is noted, if one is.
-    pub fn take<S: Alter>(&self, ledger: &mut Ledger<S>) -> Result<(), Fault> {
-        match &self.noted {
-            Some(noted) => noted.is_in(ledger),
-            None => Ok(()),
-        }
+    /// Takes a ledger that has the posting that is noted, if one is. Its newest posting, which may be a later one, is noted once the session
+    /// begins.
+    pub fn take<S: Alter>(&mut self, ledger: &mut Ledger<S>) -> Result<(), Fault> {
+        let Some(noted) = &self.noted else {
+            return Ok(());
+        };
+        noted.is_in(ledger)?;
+        self.newest = ledger.newest_posting()?;
+        Ok(())
     }
 
     /// Whether a service day is over by the clock of the machine.
@@ -73,6 +80,12 @@ impl<R: Files<File = File> + Clock + Eprint + AllocGlobal> CloseWatch<R> {
 }
 
 impl<R: Files<File = File> + Clock + Eprint + AllocGlobal> Watch for CloseWatch<R> {
+    fn begins(&mut self) {
+        if let Some(newest) = self.newest {
+            self.note(newest);
+        }
+    }
+
     fn may_close(&mut self, day: u32) -> bool {
         if self.early || self.is_over(day) {
             return true;
