@@ -1,5 +1,5 @@
-"""The last posting that is noted beside journals, ledgers that lack it, days that are not over, and closes that are
-refused."""
+"""The last posting that is noted beside journals, ledgers that lack it, notes that lag, days that are not over, and
+closes that are refused."""
 
 import os
 import stat
@@ -7,11 +7,16 @@ import time
 
 from support.journals import new_folder, with_both
 from support.ledgers import DONE, PAID, copied_ledger, session_over
-from support.running import A_DAY, MONDAY, RUN, SEVEN, End, answers, bytes_of, fault, in_lines, run, written
+from support.running import (
+    A_DAY, MONDAY, RUN, SEVEN, End, answers, bytes_of, fault, heard, in_lines, run, started, written
+)
 from support.serving import closed, ended, failed, free_ports, serving, talk, words_of
 from support.theme import Theme
 
 BUS = f"TAP 1 1 7 {SEVEN} 50 BUS"
+# On Tuesday a boarding of 1.75 more, and the close: the second posting of a ledger that Monday was closed into.
+TUESDAY = [f"TAP 1 2 7 {SEVEN + A_DAY} 50 BUS", "CLOSE 19731"]
+AFTER_MONDAY = b"PAY 7 19730 19731 2 350 175 4=175\nDONE 19731 1\n"
 
 CANNOT_READ = fault("cannot read the journal's last posting")
 
@@ -30,7 +35,7 @@ NOT_OVER = "it is not over (see --early)"
 
 class LastPostings(Theme):
     def test_what_is_noted(self):
-        """The last posting that a close has made, as four numbers; an older ledger than it is refused, and nothing is
+        """The last posting that a close has made, as five numbers; an older ledger than it is refused, and nothing is
         changed."""
         noted = os.path.join(self.folder, "journal.posted")
         self.check(
@@ -38,11 +43,11 @@ class LastPostings(Theme):
             session_over(self.folder, [BUS, "CLOSE 19730"]),
             answers(b"OK 19730 175 175\n" + PAID + DONE),
         )
-        self.check("what is noted", answers(bytes_of(noted)), answers(b"7 19730 19730 1\n"))
+        self.check("what is noted", answers(bytes_of(noted)), answers(b"7 19730 19730 1 1\n"))
         self.check("who may read it", answers(oct(stat.S_IMODE(os.stat(noted).st_mode)).encode()), answers(b"0o600"))
         monday = copied_ledger(self.folder, "monday")
         self.check("the close once more", session_over(self.folder, ["CLOSE 19730"]), answers(PAID + DONE))
-        self.check("what is noted then", answers(bytes_of(noted)), answers(b"7 19730 19730 1\n"))
+        self.check("what is noted then", answers(bytes_of(noted)), answers(b"7 19730 19730 1 1\n"))
         # Another account on that day, and then a late tap of the first one: the last posting of the reply is not the
         # new one.
         lines, eight = [f"TAP 1 1 8 {SEVEN} 50 BUS", "CLOSE 19730"], b"PAY 8 19730 19730 1 175 175 4=175\n"
@@ -51,7 +56,7 @@ class LastPostings(Theme):
             session_over(self.folder, lines),
             answers(b"OK 19730 175 175\n" + PAID + eight + b"DONE 19730 2\n"),
         )
-        self.check("what is noted of two", answers(bytes_of(noted)), answers(b"8 19730 19730 1\n"))
+        self.check("what is noted of two", answers(bytes_of(noted)), answers(b"8 19730 19730 1 2\n"))
         both = copied_ledger(self.folder, "both")
         lines, later = [f"TAP 1 2 7 {SEVEN + 7200} 50 BUS", "CLOSE 19730"], b"PAY 7 19730 19730 2 350 175 4=175\n"
         self.check(
@@ -59,7 +64,7 @@ class LastPostings(Theme):
             session_over(self.folder, lines),
             answers(b"OK 19730 350 350\n" + later + eight + b"DONE 19730 2\n"),
         )
-        self.check("what is noted of the late tap", answers(bytes_of(noted)), answers(b"7 19730 19730 2\n"))
+        self.check("what is noted of the late tap", answers(bytes_of(noted)), answers(b"7 19730 19730 2 3\n"))
         # Ledgers of before, by which the same taps would be posted again.
         kept = {
             name: bytes_of(os.path.join(self.folder, name))
@@ -94,19 +99,106 @@ class LastPostings(Theme):
         self.check(
             "the right one", session_over(self.folder, ["CLOSE 19730"]), answers(later + eight + b"DONE 19730 2\n")
         )
-        # Where nothing is noted, as by an earlier version, the ledger is taken, and the next close notes its last
-        # posting.
+        # Where nothing is noted, as by an earlier version, the ledger is taken, and its newest posting is noted.
         os.remove(noted)
         self.check(
             "with nothing noted", session_over(self.folder, ["CLOSE 19730"]), answers(later + eight + b"DONE 19730 2\n")
         )
-        self.check("nothing new, nothing noted", answers(bytes_of(noted)), answers(None))
+        self.check("what is noted anew", answers(bytes_of(noted)), answers(b"7 19730 19730 2 3\n"))
         self.check(
             "the next day",
             session_over(self.folder, ["CLOSE 19731"]),
             answers(b"PAY 7 19730 19731 2 350 0\nPAY 8 19730 19731 1 175 0\nDONE 19731 2\n"),
         )
-        self.check("what is noted of it", answers(bytes_of(noted)), answers(b"8 19730 19731 1\n"))
+        self.check("what is noted of it", answers(bytes_of(noted)), answers(b"8 19730 19731 1 5\n"))
+
+    def test_other_ledgers(self):
+        """A ledger that a drill closed through the same day, by a copy of the journal, is refused: it has the posting
+        under another number."""
+        noted, journal = os.path.join(self.folder, "journal.posted"), os.path.join(self.folder, "journal")
+        self.check(
+            "Monday", session_over(self.folder, [BUS, "CLOSE 19730"]), answers(b"OK 19730 175 175\n" + PAID + DONE)
+        )
+        self.check(
+            "Tuesday", session_over(self.folder, TUESDAY), answers(b"OK 19731 175 350\n" + AFTER_MONDAY)
+        )
+        self.check("what is noted", answers(bytes_of(noted)), answers(b"7 19730 19731 2 2\n"))
+        # The drill closes both days at once, and so its posting is the first one of its ledger.
+        written(self.folder, "copy", bytes_of(journal))
+        self.check(
+            "the drill",
+            session_over(self.folder, ["CLOSE 19731"], ledger="drill", journal="copy"),
+            answers(b"PAY 7 19730 19731 2 350 350 4=350\nDONE 19731 1\n"),
+        )
+        self.check(
+            "what is noted of it",
+            answers(bytes_of(os.path.join(self.folder, "copy.posted"))),
+            answers(b"7 19730 19731 2 1\n"),
+        )
+        kept = {name: bytes_of(os.path.join(self.folder, name)) for name in ("journal", "journal.posted", "drill")}
+        self.check(
+            "its ledger", session_over(self.folder, ["CLOSE 19731"], ledger="drill"), lacks(7, 19730, 19731)
+        )
+        self.check(
+            "the ledger for its journal",
+            session_over(self.folder, ["CLOSE 19731"], journal="copy"),
+            lacks(7, 19730, 19731),
+        )
+        for name, text in kept.items():
+            self.check(f"then {name}", answers(bytes_of(os.path.join(self.folder, name))), answers(text))
+        self.check("the right one", session_over(self.folder, ["CLOSE 19731"]), answers(AFTER_MONDAY))
+
+    def test_notes_that_lag(self):
+        """A note that lacks the last close, as where the program was killed before it was written, is mended at the
+        next start; from then on an older ledger is refused."""
+        noted, journal = os.path.join(self.folder, "journal.posted"), os.path.join(self.folder, "journal")
+        self.check("no posting", session_over(self.folder, [BUS]), answers(b"OK 19730 175 175\n"))
+        self.check("nothing is noted", answers(bytes_of(noted)), answers(None))
+        self.check("Monday", session_over(self.folder, ["CLOSE 19730"]), answers(PAID + DONE))
+        monday, late = copied_ledger(self.folder, "monday"), bytes_of(noted)
+        self.check(
+            "Tuesday", session_over(self.folder, TUESDAY), answers(b"OK 19731 175 350\n" + AFTER_MONDAY)
+        )
+        due = b"DUE 7 19730 19731 2 350 4=350\n"
+        for name, text in (("a close behind", late), ("of four numbers", b"7 19730 19730 1\n"), ("none", None)):
+            if text is None:
+                os.remove(noted)
+            else:
+                written(self.folder, "journal.posted", text)
+            # Where the session does not begin, nothing is written.
+            whole = bytes_of(journal)
+            written(self.folder, "journal", f"{BUS}\n".encode())
+            self.check(
+                f"{name}, a journal that has lost a line",
+                session_over(self.folder, ["CLOSE 19731"]),
+                fault(f"in the ledger and not in the journal: {TUESDAY[0]}, on day 19731 at second 25200"),
+            )
+            self.check(f"{name}, what is noted then", answers(bytes_of(noted)), answers(text))
+            written(self.folder, "journal", whole)
+            with started([*RUN, "--journal", journal, "--ledger", os.path.join(self.folder, "ledger")]) as ran:
+                ran.stdin.write(b"DUE 7 19731\n")
+                self.check(f"{name}, the first line", answers(heard(ran.stdout, len(due))), answers(due))
+                self.check(f"{name}, mended by then", answers(bytes_of(noted)), answers(b"7 19730 19731 2 2\n"))
+                ran.stdin.close()
+                ran.wait()
+            self.check(
+                f"{name}, Monday's ledger",
+                session_over(self.folder, ["CLOSE 19731"], ledger=monday),
+                lacks(7, 19730, 19731),
+            )
+            self.check(f"{name}, the right one", session_over(self.folder, ["CLOSE 19731"]), answers(AFTER_MONDAY))
+
+    def test_old_notes(self):
+        """A note of four numbers, as an earlier version wrote it, is taken, and is one of five after the start."""
+        noted = os.path.join(self.folder, "journal.posted")
+        self.check(
+            "a first close",
+            session_over(self.folder, [BUS, "CLOSE 19730"]),
+            answers(b"OK 19730 175 175\n" + PAID + DONE),
+        )
+        written(self.folder, "journal.posted", b"7 19730 19730 1\n")
+        self.check("a start", session_over(self.folder, []), answers(b""))
+        self.check("what is noted", answers(bytes_of(noted)), answers(b"7 19730 19730 1 1\n"))
 
     def test_what_is_no_note(self):
         """A text that notes no posting bars a start with a ledger, and all stays as it is."""
@@ -120,8 +212,11 @@ class LastPostings(Theme):
             ("nothing", b""), ("no newline", b"7 19730 19730 1"), ("two newlines", b"7 19730 19730 1\n\n"),
             ("a zero before", b"7 19730 19730 01\n"),
             ("a sign", b"+7 19730 19730 1\n"), ("three numbers", b"7 19730 19730\n"),
-            ("five numbers", b"7 19730 19730 1 1\n"), ("two spaces", b"7  19730 19730 1\n"),
+            ("six numbers", b"7 19730 19730 1 1 1\n"), ("two spaces", b"7  19730 19730 1\n"),
             ("a number that is too long", b"4294967296 19730 19730 1\n"), ("a word", b"seven 19730 19730 1\n"),
+            ("a fifth number with a zero before", b"7 19730 19730 1 01\n"),
+            ("one with a sign", b"7 19730 19730 1 +1\n"), ("no fifth number", b"7 19730 19730 1 \n"),
+            ("one that is too long", b"7 19730 19730 1 9223372036854775808\n"),
             ("no UTF-8", b"7 19730 19730 1\xff\n"),
         ):
             written(self.folder, "journal.posted", text)
@@ -132,6 +227,8 @@ class LastPostings(Theme):
             ("another week", b"7 19737 19730 1\n", lacks(7, 19737, 19730)),
             ("another day", b"7 19730 19731 1\n", lacks(7, 19730, 19731)),
             ("another version", b"7 19730 19730 2\n", lacks(7, 19730, 19730)),
+            ("another number", b"7 19730 19730 1 2\n", lacks(7, 19730, 19730)),
+            ("a number below 0", b"7 19730 19730 1 -1\n", lacks(7, 19730, 19730)),
         ):
             written(self.folder, "journal.posted", text)
             self.check(name, session_over(self.folder, ["CLOSE 19730"]), wanted)
@@ -142,7 +239,9 @@ class LastPostings(Theme):
         os.mkfifo(noted)
         self.check("a pipe", session_over(self.folder, ["CLOSE 19730"]), CANNOT_READ)
         os.remove(noted)
-        # Where it cannot be written the day is closed all the same; that is reported, and the status tells it.
+        # Where it cannot be written the day is closed all the same; that is reported, and the status tells it. So it is
+        # at a start.
+        written(self.folder, "journal.posted", b"7 19730 19730 1 1\n")
         os.mkdir(f"{noted}.tmp")
         came = session_over(self.folder, [f"TAP 1 2 7 {SEVEN + 7200} 50 BUS", "CLOSE 19730", "DUE 7 19730"])
         self.check(
@@ -153,7 +252,16 @@ class LastPostings(Theme):
                 b"OK 19730 350 350\nPAY 7 19730 19730 2 350 175 4=175\nDONE 19730 1\nDUE 7 19730 19730 2 350 4=350\n",
             ),
         )
-        self.check("nothing is noted", answers(bytes_of(noted)), answers(None))
+        self.check("what is noted stays", answers(bytes_of(noted)), answers(b"7 19730 19730 1 1\n"))
+        due = b"DUE 7 19730 19730 2 350 4=350\n"
+        self.check(
+            "it cannot be written at a start",
+            session_over(self.folder, ["DUE 7 19730"]),
+            fault(f"cannot note the last posting in {os.path.realpath(noted)}", due),
+        )
+        os.rmdir(f"{noted}.tmp")
+        self.check("it can be written", session_over(self.folder, ["DUE 7 19730"]), answers(due))
+        self.check("what is noted then", answers(bytes_of(noted)), answers(b"7 19730 19730 2 2\n"))
 
     def test_ledgers_in_their_place(self):
         """A ledger in the place of what is written beside a journal, or where that is written first, is refused, and
@@ -203,7 +311,7 @@ class LastPostings(Theme):
         self.check(
             "a close", session_over(self.folder, [BUS, "CLOSE 19730"]), answers(b"OK 19730 175 175\n" + PAID + DONE)
         )
-        self.check("what is noted", answers(bytes_of(noted)), answers(b"7 19730 19730 1\n"))
+        self.check("what is noted", answers(bytes_of(noted)), answers(b"7 19730 19730 1 1\n"))
         self.check("what the links lead to", answers(bytes_of(other)), answers(b"another's"))
         self.check(
             "they are gone",
@@ -267,27 +375,36 @@ class LastPostings(Theme):
         )
 
     def test_of_services(self):
-        """The same of a service: its last posting is noted in the folder, and an older ledger takes no port."""
+        """The same of a service: its last posting is noted in the folder, an older ledger and that of a drill take no
+        port, and a note that lags is mended."""
         journals = new_folder(self.folder, "journals")
         ledger, noted = os.path.join(self.folder, "ledger"), os.path.join(journals, "all.posted")
         more = with_both(journals, ledger)
         with serving(1, 2, 1, more=more) as (ran, port, said):
             talk(port, in_lines([BUS, "QUIT"]))
             self.check("Monday", ended(ran, said), closed(port, 1, PAID + DONE))
-        self.check("what is noted", answers(bytes_of(noted)), answers(b"7 19730 19730 1\n"))
+        self.check("what is noted", answers(bytes_of(noted)), answers(b"7 19730 19730 1 1\n"))
         monday = os.path.join(self.folder, copied_ledger(self.folder, "monday"))
         with serving(1, 2, 1, close=MONDAY + 1, more=more) as (ran, port, said):
-            talk(port, in_lines([f"TAP 1 2 7 {SEVEN + A_DAY} 50 BUS", "QUIT"]))
-            self.check(
-                "Tuesday", ended(ran, said), closed(port, 1, b"PAY 7 19730 19731 2 350 175 4=175\nDONE 19731 1\n")
-            )
-        self.check("what is noted then", answers(bytes_of(noted)), answers(b"7 19730 19731 2\n"))
+            talk(port, in_lines([TUESDAY[0], "QUIT"]))
+            self.check("Tuesday", ended(ran, said), closed(port, 1, AFTER_MONDAY))
+        self.check("what is noted then", answers(bytes_of(noted)), answers(b"7 19730 19731 2 2\n"))
+        written(self.folder, "copy", in_lines([BUS, TUESDAY[0]]))
         self.check(
-            "Monday's ledger",
-            run([*words_of(free_ports(1), 1, 2, close=MONDAY + 2), *with_both(journals, monday)]),
-            lacks(7, 19730, 19731),
+            "a drill",
+            session_over(self.folder, ["CLOSE 19731"], ledger="drill", journal="copy"),
+            answers(b"PAY 7 19730 19731 2 350 350 4=350\nDONE 19731 1\n"),
         )
-        self.check("what is noted still", answers(bytes_of(noted)), answers(b"7 19730 19731 2\n"))
+        older = (("Monday's ledger", monday), ("the drill's ledger", os.path.join(self.folder, "drill")))
+        for name, path in older:
+            self.check(
+                name,
+                run([*words_of(free_ports(1), 1, 2, close=MONDAY + 2), *with_both(journals, path)]),
+                lacks(7, 19730, 19731),
+            )
+        self.check("what is noted still", answers(bytes_of(noted)), answers(b"7 19730 19731 2 2\n"))
+        # Of an earlier version, and a close behind.
+        written(journals, "all.posted", b"7 19730 19730 1\n")
         with serving(1, 2, 1, more=more) as (ran, port, said):
             talk(port, b"QUIT\n")
             why = "42 StaleQuote: account 7 was posted through day 19731"
@@ -296,6 +413,12 @@ class LastPostings(Theme):
                 ended(ran, said),
                 failed(port, 1, f"close of day 19730 refused: {why}", b"NO 42 StaleQuote\n"),
             )
+        self.check("what is noted of the next start", answers(bytes_of(noted)), answers(b"7 19730 19731 2 2\n"))
+        self.check(
+            "Monday's ledger then",
+            run([*words_of(free_ports(1), 1, 2, close=MONDAY + 2), *with_both(journals, monday)]),
+            lacks(7, 19730, 19731),
+        )
         empty = with_both(new_folder(self.folder, "empty"), os.path.join(self.folder, "other"))
         with serving(1, 2, 1, close=50000, more=empty) as (ran, port, said):
             talk(port, b"QUIT\n")

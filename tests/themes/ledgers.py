@@ -222,6 +222,7 @@ class OtherJournals(Theme):
         )
         # What was posted for a version that the account has not, and what another sum was due for; beside a journal
         # where no posting is noted.
+        os.remove(f"{other}.posted")
         for name, change in (("a later version", "version = 3"), ("another sum", "due = 351, amount = 351")):
             changed = others_database(
                 shutil.copy(path, os.path.join(self.folder, "changed")),
@@ -364,6 +365,11 @@ class Version1(Theme):
             words = with_ledger(path, journal, RUN_SAMPLE)
             self.check(
                 f"a ledger by {name}, no lines", closing(path, self.folder, run(words)), End(0, left=ROWS_COPIED)
+            )
+            self.check(
+                f"a ledger by {name}, what is noted",
+                answers(bytes_of(f"{journal}.posted")),
+                answers(b"7 19730 19730 2 5\n"),
             )
             lines, replies = session(THIRD_SESSION)
             left = ROWS_AFTER_THIRD.replace(
