@@ -341,7 +341,7 @@ class Audits(Theme):
         others_database(
             os.path.join(self.folder, "notes"), "CREATE TABLE notes (text TEXT)", "INSERT INTO notes VALUES ('as it was')"
         )
-        others_database(os.path.join(self.folder, "bare"), "PRAGMA user_version = 7")
+        others_database(os.path.join(self.folder, "bare"), "CREATE TABLE notes (text TEXT)", "DROP TABLE notes")
         before, there = all_files(self.folder), sorted(os.listdir(self.folder))
         for name, ledger, wanted in (
             ("no file", "none", "no such ledger"), ("a byte", "byte", "no such ledger"),
