@@ -153,8 +153,8 @@ class Audits(Theme):
             answers(b"PAY 7 19730 19731 2 175 175 4=175\nDONE 19731 1\n"),
         )
         self.check("account 8 is left", audit(self.folder), answers(b"UNCLOSED 19730 1\nCLOSE 19736\n"))
-        # A late tap of account 7, two hours after its first; and in the week from 19716 on a Fill that was withdrawn, and
-        # a Credit alone, which no close quotes. After Tuesday 19738 no day is known to be over.
+        # A late tap of account 7, two hours after its first; and in the week from 19716 on a Fill that was withdrawn,
+        # and a Credit alone, which no close quotes. After Tuesday 19738 no day is known to be over.
         self.check(
             "more lines",
             later(
@@ -339,7 +339,9 @@ class Audits(Theme):
         written(self.folder, "journal", f"{BUS}\n".encode())
         written(self.folder, "byte", b"\0")
         others_database(
-            os.path.join(self.folder, "notes"), "CREATE TABLE notes (text TEXT)", "INSERT INTO notes VALUES ('as it was')"
+            os.path.join(self.folder, "notes"),
+            "CREATE TABLE notes (text TEXT)",
+            "INSERT INTO notes VALUES ('as it was')",
         )
         others_database(os.path.join(self.folder, "bare"), "CREATE TABLE notes (text TEXT)", "DROP TABLE notes")
         before, there = all_files(self.folder), sorted(os.listdir(self.folder))
