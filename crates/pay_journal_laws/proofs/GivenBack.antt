@@ -325,7 +325,7 @@ nothing_sent [] none = refl
 nothing_sent (s ∷ shards) none =
     (λ i. All-head (λ (x : SenderParts Entry). x.sent ≡ []) s shards none i ++ nothing_sent shards (All-tail (λ (x : SenderParts Entry). x.sent ≡ []) s shards none) i)
 
-nothing_asked : (count : ℕ) (l : LaneParts) → IsNewLane count l → commands_sent l ≡ []
+pub nothing_asked : (count : ℕ) (l : LaneParts) → IsNewLane count l → commands_sent l ≡ []
 nothing_asked count l new = ap (commands_below l.next) (nothing_sent l.shards new.sent) ∙ nothing_below l.next
 
 spelled_line : (zone : TimeZone) (a : Asked) → HasLine a → IsAskedIn zone a → (c : SpelledCommand) × IsSpelled c × Puts zone (requests.Command c) a

@@ -1,5 +1,6 @@
 pub mod CommandLines
 pub mod MergedNew
+pub mod NextServices
 pub mod PartsAgain
 pub mod Repeats
 pub mod TextsAgain

@@ -1,5 +1,5 @@
 -- What the lines of texts came to that were taken again over a desk.
-use Rattle.std.proofs.Common.{◌≡◌, ◌⊎◌, inl, inr, ℕ, ◌+◌, true, false, List, [], ◌∷◌, ◌++◌, Option, Some, None, Result, Ok, Err, refl, sym, ap, ◌∙◌, subst}
+use Rattle.std.proofs.Common.{◌≡◌, ◌⊎◌, inl, inr, ℕ, ◌+◌, true, false, List, [], ◌∷◌, ◌++◌, map, Option, Some, None, Result, Ok, Err, refl, sym, ap, ◌∙◌, subst, append_assoc, append-nil}
 use Rattle.std.specs.Prelude.{IfSome, ⊤}
 use Rattle.std.specs.List.{AllByRecursion}
 use Rattle.jiff.specs.declared.tz.timezone.TimeZone.{TimeZone}
@@ -17,7 +17,7 @@ use Rattle.pay_session.specs.Words.{line_requests, asks_of, Event, said, all_put
 use Rattle.pay_till.specs.Words.{Taken, commands_of, IsAnswerTo, AreAnswered, MaySometimeRefuse, MaySometimeBeLate}
 use Rattle.pay_rules.specs.InTurn.{IsIn}
 use Rattle.pay_journal.specs.Words.{is_barred, IsPriced, ClosesNothing}
-use Rattle.pay_journal_laws.specs.Texts.{requests_in, Puts}
+use Rattle.pay_journal_laws.specs.Texts.{requests_in, asked_in, put_by, Puts}
 use Rattle.pay_session.specs.declared.asks.Asks.{Asks}
 use Rattle.pay_session.specs.declared.asks.Asks.TheVariants as asks
 use Rattle.pay_session.specs.declared.request.Request.{Request}
@@ -50,6 +50,25 @@ pub record IsPutPriced (transcript : ℕ → Option Answer) (a : Asked) : Type 0
 all_after : {X : Type 0} (P : X → Type 0) (xs ys : List X) → AllByRecursion P (xs ++ ys) → AllByRecursion P ys
 all_after P [] ys all = all
 all_after P (x ∷ xs) ys all = all_after P xs ys all.1
+
+map_both : {X Y : Type 0} (f : X → Y) (xs ys : List X) → map f (xs ++ ys) ≡ map f xs ++ map f ys
+map_both f [] ys = refl
+map_both f (x ∷ xs) ys = ap (λ l. f x ∷ l) (map_both f xs ys)
+
+asked_both : (zone : TimeZone) (rs qs : List Request) → asked_in zone (rs ++ qs) ≡ asked_in zone rs ++ asked_in zone qs
+asked_both zone [] qs = refl
+asked_both zone (r ∷ rs) qs = ap (λ l. put_by (asks_of zone r) ++ l) (asked_both zone rs qs) ∙ sym (append_assoc (put_by (asks_of zone r)) (asked_in zone rs) (asked_in zone qs))
+
+-- the commands alone
+abbrev commands : List (ℕ × Asked) → List Asked
+commands list = map (λ (c : ℕ × Asked). c.1) list
+
+abbrev asked_of : List Taken → List Asked
+asked_of put = map (λ (t : Taken). t.asked) put
+
+same_commands : (put : List Taken) → commands (commands_of put) ≡ asked_of put
+same_commands [] = refl
+same_commands (t ∷ put) = ap (λ l. t.asked ∷ l) (same_commands put)
 
 -- ---- one event
 
@@ -89,6 +108,16 @@ module _ (of : ℕ) (Refuses : DeskFault → Type 0) (Late : Type 0) where
   taken_event asks.Quit e t x y served allowed has = absurd (cc)
   taken_event (asks.No why) e t x y served allowed has = absurd (subst (λ (x : Event). IsIn x.put t) served.0 has)
 
+  -- an event that was answered by prices has put just what its request puts
+  put_event : (asked : Asks) (e : Event) (x y : ⊤) → IsServedAs of Refuses Late ClosesNothing asked e x y → is_barred asked ≡ false → IsPriced e.reply → asked_of e.put ≡ put_by asked
+  put_event (asks.Put a) e x y served allowed prices = elim served.0 [
+    | inl taken ↦ ap asked_of taken.once ∙ ap (λ b. b ∷ []) taken.same
+    | inr refused ↦ absurd (refused_unpriced _ e.reply (ap (λ (x : Event). x.reply) refused.told) prices)
+  ]
+  put_event (asks.Close day) e x y served allowed prices = absurd (cc)
+  put_event asks.Quit e x y served allowed prices = absurd (cc)
+  put_event (asks.No why) e x y served allowed prices = absurd (refused_unpriced why e.reply (ap (λ (x : Event). x.reply) served.0) prices)
+
   -- ---- all of a text
 
   module _ (zone : TimeZone) where
@@ -111,6 +140,16 @@ module _ (of : ℕ) (Refuses : DeskFault → Type 0) (Late : Type 0) where
       | inl here ↦ (q, inl refl, taken_event (asks_of zone q) e t x served.0 served.1 allowed.0 here)
       | inr later ↦ let it = taken_requests rs es served.0 y served.2 allowed.1 t later in (it.0, inr it.1, it.2)
     ]
+
+    put_requests : (rs : List Request) (es : List Event) (x y : ⊤) → AreServed of Refuses Late ClosesNothing zone x rs es y → AllByRecursion (λ (q : Request). is_barred (asks_of zone q) ≡ false) rs
+        → AllByRecursion (λ (e : Event). IsPriced e.reply) es → asked_of (all_put es) ≡ asked_in zone rs
+    put_requests [] [] x y served allowed prices = refl
+    put_requests [] (e ∷ es) x y served allowed prices = absurd served
+    put_requests (q ∷ rs) [] x y served allowed prices = absurd served
+    put_requests (q ∷ rs) (e ∷ es) x y served allowed prices =
+        let here = put_event (asks_of zone q) e x served.0 served.1 allowed.0 prices.0 in
+        let later = put_requests rs es served.0 y served.2 allowed.1 prices.1 in
+        map_both (λ (t : Taken). t.asked) e.put (all_put es) ∙ (λ i. here i ++ later i)
 
 -- ---- texts
 
@@ -171,3 +210,18 @@ module _ {D O : Type 0} (zone : TimeZone) (parts : D → DeskParts O) where
     | inr beyond ↦ inr (beyond.0, in_back (line_requests text) (requests_in texts) beyond.0 beyond.1, beyond.2)
   ]
   asked_by_line journal (text ∷ texts) before after (inr (why, ended, same)) c has = not_taken journal (journal_fault journal why) same
+
+  -- in order, and each once
+  pub asked_exactly : (journal : ℕ) (texts : List (List ℕ)) (before after : D) → AreTakenAgain zone parts journal texts (before, after) (Ok tt)
+      → commands (parts after).taken ≡ commands (parts before).taken ++ asked_in zone (requests_in texts)
+  asked_exactly journal [] before after same = ap (λ d. commands (parts d).taken) same ∙ sym (append-nil (commands (parts before).taken))
+  asked_exactly journal (text ∷ texts) before after (inl (between, it, replayed, kept, later)) =
+      let session = replayed.accepted.0 in
+      let s = (parts before).standing in
+      let put = put_requests s.shards (MaySometimeRefuse parts s) (MaySometimeBeLate parts s) zone (line_requests text) replayed.events tt tt session.served replayed.accepted.1 replayed.accepted.2 in
+      let first = commands (parts before).taken in
+      let here = ap commands session.taken ∙ (map_both (λ (c : ℕ × Asked). c.1) (parts before).taken (commands_of (all_put replayed.events)) ∙ ap (λ l. first ++ l) (same_commands (all_put replayed.events) ∙ put)) in
+      asked_exactly (journal + 1) texts between after later
+      ∙ (ap (λ l. l ++ asked_in zone (requests_in texts)) here
+      ∙ (append_assoc first (asked_in zone (line_requests text)) (asked_in zone (requests_in texts)) ∙ ap (λ l. first ++ l) (sym (asked_both zone (line_requests text) (requests_in texts)))))
+  asked_exactly journal (text ∷ texts) before after (inr (why, ended, same)) = not_taken journal (journal_fault journal why) same

@@ -1,5 +1,6 @@
 //! Laws of the journals of a service's shards.
 ghost use Rattle.pay_journal_laws.specs.HaveKept.{KeptGivesBack};
+ghost use Rattle.pay_journal_laws.specs.NextServices.{ServiceGoesOn};
 ghost use Rattle.pay_journal_laws.specs.Services.{ServiceGivesBack, ServicePartsAreTaken};
 ghost use Rattle.pay_serve.specs.Words.{HoldsPassed};
 
@@ -30,4 +31,13 @@ pub fn service_gives_back<K: Keeper>()
     kept_gives_back();
     texts::parts_are_taken();
     texts::part_asks_alike();
+}
+
+/// From service to service: one that takes up what another has left, with the same fare file and in the same zone, begins with the
+/// accounts with which that one ended, over however many shards. Each is in its shard what it was in its shard there.
+pub fn service_goes_on<K: Keeper>()
+    ensures { ServiceGoesOn (HoldsPassed K.holds K.HasFailed K.IsSettled) }
+{
+    kept_gives_back();
+    pay_shard::laws::merge();
 }
