@@ -1,5 +1,5 @@
 -- What a service begins with that goes on after another one.
-use Rattle.std.proofs.Common.{◌≡◌, ℕ, Bool, List, [], ◌∷◌, ◌++◌, map, length, refl, sym, ap, ◌∙◌}
+use Rattle.std.proofs.Common.{◌≡◌, ℕ, Bool, List, [], ◌++◌, map, length, refl, sym, ap, ◌∙◌}
 use Rattle.std.specs.FinMap.{empty}
 use Rattle.std.specs.FinMap as finite
 use Rattle.pay_shard.specs.Words.{MergeEndsAsShards, all_items, asked_by}
