@@ -123,6 +123,10 @@ pub record IsServedBy (Holds : GateParts → List Passed → Bool → Type 0) (t
 abbrev pub IsServed : (GateParts → List Passed → Bool → Type 0) → Terms → Closing → Option (List ℕ) × Option (List ℕ) → Result Bool ServeFault → Type 0 → Type 0
 IsServed Holds terms Closed written result Untouched = IsServedBy Holds terms Closed written.0 written.1 result ⊎ (IsErr result × Untouched)
 
+-- the same, and these gates are left, beside what it comes to
+abbrev pub IsServedWith : (GateParts → List Passed → Bool → Type 0) → Terms → Closing → Option (List ℕ) × Option (List ℕ) → List GateParts × Result Bool ServeFault → Type 0 → Type 0
+IsServedWith Holds terms Closed written left Untouched = ((served : IsServedBy Holds terms Closed written.0 written.1 left.1) × (served.gates ≡ left.0)) ⊎ (IsErr left.1 × Untouched)
+
 -- A line of a journal is not accepted: over a new office all lines before it were taken again over one lane, which had asked for nothing,
 -- and it was not. No gate has kept a line.
 pub record IsRefusedAgain (terms : Terms) (journal line : ℕ) (why : Refusal) : Type 0 where

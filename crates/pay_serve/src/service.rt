@@ -8,7 +8,7 @@ ghost use Rattle.pay_lanes.specs.Words.{IsNewLane, began_of};
 ghost use Rattle.pay_serve.specs.KeepingGates.{HoldsPassed};
 ghost use Rattle.pay_serve.specs.declared.limits.TheConstants.{SPARED_LANE};
 ghost use Rattle.pay_serve.specs.Causes.{IsOutOfPlan, IsUnopened, IsServeCause};
-ghost use Rattle.pay_serve.specs.Closes.{IsServed, IsStopped, terms_of};
+ghost use Rattle.pay_serve.specs.Closes.{IsServed, IsServedWith, IsStopped, terms_of};
 ghost use Rattle.pay_serve.specs.LeftGates.{IsLeftIn};
 ghost use Rattle.pay_serve.specs.Journals.{is_one_stuck, told_with};
 ghost use Rattle.pay_serve.specs.Lanes.{HasShards, AreAllWith};
@@ -101,8 +101,8 @@ where
     requires day { (FIRST_DAY ≤ given.plan.close) × (given.plan.close ≤ LAST_DAY) }
     requires listeners { length listeners.items ≡ given.plan.lanes }
     requires empty { gates.old.items ≡ [] }
-    ensures served { IsServed (HoldsPassed K.holds K.HasFailed K.IsSettled) (terms_of K.Keeper given.entry) (λ of put answer. T.Closes till.old given.entry.plan.close of put answer till.new)
-        (W.contents writer.old, W.contents writer.new) result ((till.new ≡ till.old) × (writer.new ≡ writer.old)) }
+    ensures served { IsServedWith (HoldsPassed K.holds K.HasFailed K.IsSettled) (terms_of K.Keeper given.entry) (λ of put answer. T.Closes till.old given.entry.plan.close of put answer till.new)
+        (W.contents writer.old, W.contents writer.new) (gates.new.items, result) ((till.new ≡ till.old) × (writer.new ≡ writer.old)) }
     ensures stopped { IfErr result (IsStopped (terms_of K.Keeper given.entry)) }
     ensures flushed { OnOk result (IsFlushed W.MayAnswer writer.new) }
     ensures within { OnOk result (IsOutOfPlan given.entry.plan → ⊥) }

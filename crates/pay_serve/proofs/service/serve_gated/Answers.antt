@@ -1,4 +1,4 @@
-use Rattle.std.proofs.Common.{◌≡◌, ◌≤◌, inl, Option, IfSome, All, List, map, vec_items, length, ◌∙◌, sym, subst}
+use Rattle.std.proofs.Common.{◌≡◌, ◌≤◌, inl, refl, Option, IfSome, All, List, map, vec_items, length, ◌∙◌, sym, subst}
 use Rattle.std.proofs.lemmas.Result.{err_from_is_err_and}
 use Rattle.pay_shard.specs.declared.limits.TheConstants.{MOST_SHARDS}
 use Rattle.pay_journal.specs.Words.{CanFail}
@@ -45,24 +45,27 @@ returns-clause-served g c =
     let K = g.K.Keeper in
     let gone = c.serve_lanes-refused.ensures.served in
     let closed = c.close_day-closed.ensures.closed in
-    inl (record {
-      office = c.in_ok-office.office;
-      new = c.in_ok-office.ensures.new;
-      first = c.in_ok-office.first;
-      spared = c.in_ok-office.ensures.spared;
-      last = c.take_through-taken.result.1;
-      past = subst (AreTakenThrough c.args.given.zone (map vec_items c.args.given.texts.now) c.in_ok-office.first c.take_through-taken.result.1) c.in-Ok.is c.take_through-taken.ensures.taken;
-      others = c.serve_lanes-refused.result.1.items;
-      all = all_back c.still_together.ensures.in_order c.same_workers.ensures.itself c.in_ok-office.office c.in_ok-office.lanes.items c.serve_lanes-refused.result.1.items c.in_ok-office.first c.take_through-taken.result.1
-          (all_same c.args.given.zone _ _ gone) c.take_through-taken.ensures.same c.in_ok-office.ensures.all;
-      asked = all_asked c.args.given.zone (length c.in_ok-office.office) c.in_ok-office.lanes.items c.serve_lanes-refused.result.1.items c.in_ok-office.ensures.others gone;
-      gates = c.close_day-closed.result.1.items;
-      began = c.close_day-closed.ensures.began ∙ c.in_ok-office.ensures.began;
-      told = c.close_day-closed.result.0;
-      closed = closed;
-      kept = all_kept K.holds K.HasFailed K.IsSettled c.passed_are_kept.ensures _ closed.gates.workers c.close_day-closed.result.1.items closed.gates.passed;
-      is = subst (λ (gs : List GateParts). c.told_with-told.result ≡ told_with (is_one_stuck gs) c.close_day-closed.result.0) c.as_slice.ensures.value c.told_with-told.ensures.told;
-    })
+    inl (
+      record {
+        office = c.in_ok-office.office;
+        new = c.in_ok-office.ensures.new;
+        first = c.in_ok-office.first;
+        spared = c.in_ok-office.ensures.spared;
+        last = c.take_through-taken.result.1;
+        past = subst (AreTakenThrough c.args.given.zone (map vec_items c.args.given.texts.now) c.in_ok-office.first c.take_through-taken.result.1) c.in-Ok.is c.take_through-taken.ensures.taken;
+        others = c.serve_lanes-refused.result.1.items;
+        all = all_back c.still_together.ensures.in_order c.same_workers.ensures.itself c.in_ok-office.office c.in_ok-office.lanes.items c.serve_lanes-refused.result.1.items c.in_ok-office.first c.take_through-taken.result.1
+            (all_same c.args.given.zone _ _ gone) c.take_through-taken.ensures.same c.in_ok-office.ensures.all;
+        asked = all_asked c.args.given.zone (length c.in_ok-office.office) c.in_ok-office.lanes.items c.serve_lanes-refused.result.1.items c.in_ok-office.ensures.others gone;
+        gates = c.close_day-closed.result.1.items;
+        began = c.close_day-closed.ensures.began ∙ c.in_ok-office.ensures.began;
+        told = c.close_day-closed.result.0;
+        closed = closed;
+        kept = all_kept K.holds K.HasFailed K.IsSettled c.passed_are_kept.ensures _ closed.gates.workers c.close_day-closed.result.1.items closed.gates.passed;
+        is = subst (λ (gs : List GateParts). c.told_with-told.result ≡ told_with (is_one_stuck gs) c.close_day-closed.result.0) c.as_slice.ensures.value c.told_with-told.ensures.told;
+      },
+      refl,
+    )
 
 pub returns-in_err-office-clause-cause : goal.returns-in_err-office-clause-cause
 returns-in_err-office-clause-cause g c =
