@@ -3,6 +3,7 @@ comes first."""
 
 import contextlib
 import functools
+import itertools
 import os
 import resource
 import signal
@@ -325,11 +326,11 @@ class Pieces(Theme):
     def test_outputs_that_fail_once(self):
         """Nothing is written after a write that failed or took nothing, and no line is taken but the next one."""
         late = in_lines(LATE_LINES), in_lines(LATE_REPLIES)
-        for written_bytes in range(len(late[1])):
+        ways = ({}, {"TAKES_NOTHING": 1}, {"PIECE": 5, "INTERRUPTED": 1})
+        for written_bytes, how in zip(range(len(late[1])), itertools.cycle(ways)):
+            came = run(RUN, late[0], **self.broken_up(WRITTEN=written_bytes, **how))
             wanted = fault("output fault", late[1][:written_bytes])
-            for how in ({}, {"TAKES_NOTHING": 1}, {"PIECE": 5, "INTERRUPTED": 1}):
-                came = run(RUN, late[0], **self.broken_up(WRITTEN=written_bytes, **how))
-                self.check(f"a write that fails after {written_bytes} bytes {how}", came, wanted)
+            self.check(f"a write that fails after {written_bytes} bytes {how}", came, wanted)
         lines, replies = boardings(4)
         for written_bytes in range(len(replies)):
             journal = missing(self.folder)
