@@ -61,7 +61,7 @@ pub fn open_file<S: Start>(
 }
 
 /// The same of a ledger that is there already: nothing is made where a database has none of its tables, which is `NotALedger` too, and
-/// stays as it is; a log that was made beside it is removed. One of version 1 becomes one of version 2, as in [`open_file`]. The caller
+/// stays as it is; a log of no bytes beside it is removed. One of version 1 becomes one of version 2, as in [`open_file`]. The caller
 /// sees to it that the file is there: where it is not, it is made, with a database without tables.
 pub fn open_existing<S: Start>(
     rt: &HostRuntime,
