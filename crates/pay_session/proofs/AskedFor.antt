@@ -53,11 +53,10 @@ module _ (zone : TimeZone) where
     by_put r a event spelled is (inr refused) = for_none event (ap (λ (e : Event). e.put) refused.told)
 
     module _ {T : Type 0} (of : ℕ) (Closes : T → ℕ → ℕ → List Taken → Result (List Posting) Refusal → T → Type 0) where
-      by_what : (r : Request) (a : Asks) (event : Event) (before after : T) → IsAsked r → asks_of zone r ≡ a → IsServedAs of Refuses Late Closes a event before after → AreAllAskedIn zone (commands_of event.put)
-      by_what r (asks.Put a) event before after spelled is served = by_put r a event spelled is served.0
-      by_what r (asks.Close day) event before after spelled is served = by_close day of 0 event.put served.close.quotes
-      by_what r asks.Quit event before after spelled is served = for_none event (ap (λ (e : Event). e.put) served.0)
-      by_what r (asks.No why) event before after spelled is served = for_none event (ap (λ (e : Event). e.put) served.0)
-
-      pub taken_for : (r : Request) (event : Event) (before after : T) → IsAsked r → IsServedAs of Refuses Late Closes (asks_of zone r) event before after → AreAllAskedIn zone (commands_of event.put)
-      taken_for r event before after spelled served = by_what r (asks_of zone r) event before after spelled refl served
+      -- also where it comes to less than in the zone
+      pub taken_for : (r : Request) (what : Asks) (event : Event) (before after : T) → IsAsked r → ((a : Asked) → what ≡ asks.Put a → asks_of zone r ≡ asks.Put a) → IsServedAs of Refuses Late Closes what event before after
+          → AreAllAskedIn zone (commands_of event.put)
+      taken_for r (asks.Put a) event before after spelled is served = by_put r a event spelled (is a refl) served.0
+      taken_for r (asks.Close day) event before after spelled is served = by_close day of 0 event.put served.close.quotes
+      taken_for r asks.Quit event before after spelled is served = for_none event (ap (λ (e : Event). e.put) served.0)
+      taken_for r (asks.No why) event before after spelled is served = for_none event (ap (λ (e : Event). e.put) served.0)

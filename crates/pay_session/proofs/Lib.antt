@@ -5,6 +5,8 @@ pub mod InputLines
 pub mod InputPieces
 pub mod Newlines
 pub mod OverDesk
+pub mod Pieces
+pub mod Ports
 pub mod PutCommands
 pub mod ReaderCalls
 pub mod SessionSteps

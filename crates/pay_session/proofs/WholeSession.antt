@@ -37,7 +37,7 @@ parts_of : (input front back left bytes more : List ℕ) → input ≡ front ++ 
 parts_of input front back left bytes more p same q = p ∙ ap (λ l. front ++ l) (sym same ∙ q) ∙ sym (append_assoc front bytes more)
 
 -- what is asked for by bytes that no newline ends is no QUIT
-rest_stays : (y : List ℕ) → through_quit (request_of_rest y) ≡ request_of_rest y
+pub rest_stays : (y : List ℕ) → through_quit (request_of_rest y) ≡ request_of_rest y
 rest_stays [] = refl
 rest_stays (b ∷ bs) = elim (nat_lt MOST_LINE_BYTES (length (b ∷ bs))) as (λ c. through_quit (cond c requests.LongLine requests.BadLine ∷ []) ≡ cond c requests.LongLine requests.BadLine ∷ []) [ true ↦ refl | false ↦ refl ]
 

@@ -3,6 +3,8 @@ pub mod Asks
 pub mod AskedFor
 pub mod Calls
 pub mod Events
+pub mod Pieces
+pub mod Ports
 pub mod Served
 pub mod Serving
 pub mod Session

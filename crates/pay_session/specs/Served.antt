@@ -52,8 +52,12 @@ module _ {T : Type 0} (of : ℕ) (Refuses : DeskFault → Type 0) (Late : Type 0
   IsServedAs asks.Quit event before after = (event ≡ record { reply = replies.Bye; put = [] }) × (after ≡ before)
   IsServedAs (asks.No why) event before after = (event ≡ record { reply = replies.No why; put = [] }) × (after ≡ before)
 
-  -- each of a list of requests, in order, by what it comes to in a zone
+  -- each of a list of requests, in order, by what it comes to
+  abbrev pub AreServedBy : (Request → Asks) → T → List Request → List Event → T → Type 0
+  AreServedBy asks before [] [] after = after ≡ before
+  AreServedBy asks before (r ∷ rs) (e ∷ es) after = (between : T) × IsServedAs (asks r) e before between × AreServedBy asks between rs es after
+  AreServedBy asks before _ _ after = ⊥
+
+  -- the same by what it comes to in a zone
   abbrev pub AreServed : TimeZone → T → List Request → List Event → T → Type 0
-  AreServed zone before [] [] after = after ≡ before
-  AreServed zone before (r ∷ rs) (e ∷ es) after = (between : T) × IsServedAs (asks_of zone r) e before between × AreServed zone between rs es after
-  AreServed zone before _ _ after = ⊥
+  AreServed zone = AreServedBy (asks_of zone)

@@ -99,8 +99,8 @@ module _ {D O T : Type 0} (zone : TimeZone) (parts : D → DeskParts O) (Closes 
 module _ {D O T : Type 0} (parts : D → DeskParts O) (Closes : T → ℕ → ℕ → List Taken → Result (List Posting) Refusal → T → Type 0) where
   abbrev pub ServiceEnds : (before after : Service D T × Option (List ℕ) × Option (List ℕ)) → Done → Type 0
   ServiceEnds before after done =
-      Ends before.0.zone.now parts Closes (before.0.desk.now, before.0.till.now, before.1, before.2) (after.0.desk.now, after.0.till.now, after.1, after.2) done
+      Ends before.0.port.zone.now parts Closes (before.0.desk.now, before.0.till.now, before.1, before.2) (after.0.desk.now, after.0.till.now, after.1, after.2) done
 
   abbrev pub ServiceFails : (before after : Service D T × Option (List ℕ) × Option (List ℕ)) → SessionFault → Type 0
   ServiceFails before after fault =
-      Fails before.0.zone.now parts Closes (before.0.desk.now, before.0.till.now, before.1, before.2) (after.0.desk.now, after.0.till.now, after.1, after.2) fault
+      Fails before.0.port.zone.now parts Closes (before.0.desk.now, before.0.till.now, before.1, before.2) (after.0.desk.now, after.0.till.now, after.1, after.2) fault

@@ -12,6 +12,7 @@ use Rattle.pay_session.specs.declared.request.Request.{Request}
 use Rattle.pay_session.specs.declared.progress.Fill.{Fill}
 use Rattle.pay_session.specs.declared.progress.Fill.TheVariants.{More, End, Quit}
 use Rattle.pay_session.specs.declared.progress.Progress.{Progress}
+use Rattle.pay_session.specs.declared.service.Service.{Service}
 use Rattle.pay_session.specs.declared.stop.SessionFault.{SessionFault}
 use Rattle.pay_session.specs.declared.stop.SessionFault.TheVariants as fault
 use Rattle.pay_session.specs.declared.stop.Stop.{Stop}
@@ -29,6 +30,10 @@ pub record Position (S : Type 0) : Type 0 where
 -- where a session stands whose writer holds this
 abbrev pub at : {S : Type 0} → Progress → S → Option (List ℕ) → Position S
 at p state written = record { state = state; ahead = p.line; written = written; answered = p.answered; lacked = p.lacked_memory }
+
+-- a service, what is kept of a line, and what the writer holds
+abbrev pub at_hand : {D T : Type 0} → Service D T → Progress → Option (List ℕ) → D × T × List ℕ × Option (List ℕ)
+at_hand service p written = (service.desk.now, service.till.now, p.line, written)
 
 -- the same with these bytes ahead
 abbrev pub with_ahead : {S : Type 0} → Position S → List ℕ → Position S

@@ -5,10 +5,12 @@
 
 mod asks;
 mod begun_line;
+mod conversation;
 mod cutting;
 mod known_reader;
 pub mod laws;
 pub mod limits;
+mod port;
 mod progress;
 mod request;
 mod service;
@@ -16,8 +18,10 @@ mod sessions;
 mod stop;
 
 pub use asks::{Asks, asks_of};
+pub use conversation::Conversation;
 pub use cutting::cut;
 pub use known_reader::KnownReader;
+pub use port::{Port, Role, asks_at};
 pub use request::{Request, request_of};
 pub use service::reply_of;
 pub use sessions::{Done, session};

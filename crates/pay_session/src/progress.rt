@@ -57,6 +57,14 @@ impl Progress {
         self.answered
     }
 
+    /// Counts the replies from none on again.
+    pub fn count_anew(&mut self)
+        ensures { self.new ≡ record { line = self.old.line; answered = 0; lacked_memory = false } }
+    {
+        self.answered = 0;
+        self.lacked_memory = false;
+    }
+
     /// The end of the session, by a `QUIT` or without one.
     pub fn done(&self, quit: bool) -> Done
         ensures { result ≡ record { answered = self.now.answered; quit = quit; lacked_memory = self.now.lacked_memory } }
@@ -144,7 +152,7 @@ impl Progress {
 
     /// Takes the bytes, and answers each line that ends in them. Where one asks to quit, the answer
     /// is how many bytes are left after it.
-    fn take<A: Answers, W: KnownWriter>(
+    pub fn take<A: Answers, W: KnownWriter>(
         &mut self,
         answers: &mut A,
         bytes: &[u8],
@@ -199,7 +207,7 @@ impl Progress {
     }
 
     /// Answers what no newline ended.
-    fn end<A: Answers, W: KnownWriter>(
+    pub fn end<A: Answers, W: KnownWriter>(
         &mut self,
         answers: &mut A,
         writer: &mut W,

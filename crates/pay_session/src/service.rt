@@ -1,4 +1,4 @@
-//! What answers the requests of a session: a zone, a desk and a till.
+//! What answers the requests of a session: a port, a desk and a till.
 ghost use Rattle.std.specs.Prelude.{◌≡◌, ◌≤◌};
 ghost use Rattle.pay_day.specs.declared.limits.TheConstants.{FIRST_DAY, LAST_DAY};
 ghost use Rattle.pay_shard.specs.Words.{NothingIsLost};
@@ -9,9 +9,9 @@ ghost use Rattle.pay_session.specs.Serving.{IsPutAt, IsCloseSaidAt};
 ghost use Rattle.pay_session.specs.SessionSteps.{IsAnswered};
 ghost use Rattle.pay_session.specs.declared.request.Request.{Request};
 
-use crate::asks::{Asks, asks_of};
+use crate::asks::Asks;
+use crate::port::{Port, asks_at};
 use crate::request::Request;
-use jiff::tz::TimeZone;
 use pay_shard::{Command, Desk, DeskFault};
 use pay_till::Till;
 use pay_wire::{Closed, Refusal, SpelledReply};
@@ -27,39 +27,39 @@ pub(crate) trait Answers: Drop {
         ensures { IsAnswered Serves request self.old self.new result };
 }
 
-/// A zone, a desk and a till.
+/// A port, a desk and a till.
 #[derive(Drop)]
 pub(crate) struct Service<'a, D, T> {
-    zone: &'a TimeZone<'a>,
+    port: Port<'a>,
     desk: &'a mut D,
     till: &'a mut T,
 }
 
 impl<'a, D: Desk, T: Till> Service<'a, D, T> {
     /// The three together.
-    pub fn new(zone: &'a TimeZone<'a>, desk: &'a mut D, till: &'a mut T) -> Service<'a, D, T>
-        ensures zone { result.zone.now ≡ zone.now }
+    pub fn new(port: Port<'a>, desk: &'a mut D, till: &'a mut T) -> Service<'a, D, T>
+        ensures port { result.port ≡ port.entry }
         ensures same_desk { result.desk.ghost_name ≡ desk.entry.ghost_name }
         ensures desk { result.desk.now ≡ desk.old }
         ensures same_till { result.till.ghost_name ≡ till.entry.ghost_name }
         ensures till { result.till.now ≡ till.old }
     {
-        Service { zone, desk, till }
+        Service { port, desk, till }
     }
 }
 
 impl<'a, D: Desk, T: Till> Answers for Service<'a, D, T> {
-    ghost use Rattle.pay_session.specs.Asks.{asks_of};
+    ghost use Rattle.pay_session.specs.Ports.{asks_at};
     ghost use Rattle.pay_session.specs.Requests.{IsAsked};
     ghost use Rattle.pay_session.specs.Serving.{IsStep};
 
     ghost Serves = { λ before request event after.
-        IsStep D.parts T.Closes (asks_of before.zone.now request) event (before.desk.now, before.till.now) (after.desk.now, after.till.now)
-        × (after.desk.ghost_name ≡ before.desk.ghost_name) × (after.till.ghost_name ≡ before.till.ghost_name) × (after.zone ≡ before.zone) × (T.origin after.till.now ≡ T.origin before.till.now)
+        IsStep D.parts T.Closes (asks_at before.port request) event (before.desk.now, before.till.now) (after.desk.now, after.till.now)
+        × (after.desk.ghost_name ≡ before.desk.ghost_name) × (after.till.ghost_name ≡ before.till.ghost_name) × (after.port ≡ before.port) × (T.origin after.till.now ≡ T.origin before.till.now)
         × IsAsked request };
 
     fn answer(&mut self, request: Request) -> SpelledReply {
-        match asks_of(self.zone, request) {
+        match asks_at(self.port, request) {
             Asks::Put(command) => reply_of(self.desk, command),
             Asks::Close(day) => close(self.till, self.desk, day),
             Asks::Quit => SpelledReply::Bye,

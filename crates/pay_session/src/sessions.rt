@@ -2,11 +2,13 @@
 ghost use Rattle.std.specs.Prelude.{◌≡◌, false, IfOk, IfErr};
 ghost use Rattle.pay_session.specs.AskedFor.{AreAskedIn};
 ghost use Rattle.pay_session.specs.Calls.{IsLastFill, ShowsNothing};
+ghost use Rattle.pay_session.specs.Ports.{IsOpen};
 ghost use Rattle.pay_session.specs.Session.{Ends, Fails, ServiceEnds, ServiceFails};
 ghost use Rattle.pay_session.specs.Stops.{IsBroken};
 ghost use Rattle.pay_shard.specs.Words.{NothingIsLost};
 
 use crate::known_reader::KnownReader;
+use crate::port::Port;
 use crate::progress::Progress;
 use crate::service::Service;
 use crate::stop::SessionFault;
@@ -48,15 +50,20 @@ pub fn session<R: KnownReader, W: KnownWriter, D: Desk, T: Till>(
     ensures same_desk { (D.parts desk.new).standing ≡ (D.parts desk.old).standing }
     ensures same_till { T.origin till.new ≡ T.origin till.old }
 {
-    session_by(&mut Service::new(zone, desk, till), reader, writer)
+    session_by(
+        &mut Service::new(Port::open(zone), desk, till),
+        reader,
+        writer,
+    )
 }
 
-/// Answers the lines of a reader by a desk and a till.
+/// Answers the lines of a reader by a desk and a till, at a port where all may be asked for.
 fn session_by<R: KnownReader, W: KnownWriter, D: Desk, T: Till>(
     service: &mut Service<'_, D, T>,
     reader: &mut R,
     writer: &mut W,
 ) -> Result<Done, SessionFault>
+    requires { IsOpen service.old.port.zone.now service.old.port }
     ensures desk_name { service.new.desk.ghost_name ≡ service.old.desk.ghost_name }
     ensures till_name { service.new.till.ghost_name ≡ service.old.till.ghost_name }
     ensures ends { IfOk result (ServiceEnds D.parts T.Closes (service.old, R.remaining reader.old, W.contents writer.old)
@@ -65,7 +72,7 @@ fn session_by<R: KnownReader, W: KnownWriter, D: Desk, T: Till>(
         (service.new, R.remaining reader.new, W.contents writer.new)) }
     ensures ended { IfOk result (λ done. done.quit ≡ false → IsLastFill R.MayAnswer (ShowsNothing R.MayAnswer) reader.old reader.new) }
     ensures cause { IfErr result (λ fault. IsBroken R.MayAnswer W.MayAnswer fault reader.old reader.new writer.new) }
-    ensures asked { AreAskedIn service.old.zone.now (D.parts service.old.desk.now).taken (D.parts service.new.desk.now).taken }
+    ensures asked { AreAskedIn service.old.port.zone.now (D.parts service.old.desk.now).taken (D.parts service.new.desk.now).taken }
     ensures transcript { NothingIsLost (D.parts service.old.desk.now).transcript (D.parts service.new.desk.now).transcript }
     ensures same_desk { (D.parts service.new.desk.now).standing ≡ (D.parts service.old.desk.now).standing }
     ensures same_till { T.origin service.new.till.now ≡ T.origin service.old.till.now }

@@ -39,10 +39,10 @@ pub returns-in-Err-clause-same_till : goal.returns-in-Err-clause-same_till
 returns-in-Err-clause-same_till g c = (ran g.D.Desk.parts g.T.Till.Closes g.T.Till.origin _ _ c.serve.ensures.ran).same_till
 
 pub returns-in-Ok-clause-ends : goal.returns-in-Ok-clause-ends
-returns-in-Ok-clause-ends g c = rw c.done.ensures (ends g.D.Desk.parts g.T.Till.Closes g.T.Till.origin _ _ _ _ _ _ _ _ _ c.in-Ok.ensures.ends)
+returns-in-Ok-clause-ends g c = rw c.done.ensures (ends g.D.Desk.parts g.T.Till.Closes g.T.Till.origin _ _ _ _ _ _ _ _ _ c.requires c.in-Ok.ensures.ends)
 
 pub returns-in-Err-clause-fails : goal.returns-in-Err-clause-fails
-returns-in-Err-clause-fails g c = rw (c.after.ensures, c.answered.ensures) (fails g.D.Desk.parts g.T.Till.Closes g.T.Till.origin _ _ _ _ _ _ _ c.in-Err.ensures.fails)
+returns-in-Err-clause-fails g c = rw (c.after.ensures, c.answered.ensures) (fails g.D.Desk.parts g.T.Till.Closes g.T.Till.origin _ _ _ _ _ _ _ c.requires c.in-Err.ensures.fails)
 
 pub returns-in-Err-clause-cause : goal.returns-in-Err-clause-cause
 returns-in-Err-clause-cause g c = rw c.after.ensures (broken g.R.KnownReader.MayAnswer g.W.KnownWriter.MayAnswer _ _ _ _ _ c.in-Err.ensures.cause)
