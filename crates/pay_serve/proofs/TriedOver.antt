@@ -5,6 +5,7 @@ use Rattle.std.specs.List.{AllZip}
 use Rattle.std.proofs.lemmas.List.Elements.{All-tail}
 use Rattle.std.proofs.lemmas.Slice.Zip.{AllZip-long}
 use Rattle.jiff.specs.declared.tz.timezone.TimeZone.{TimeZone}
+use Rattle.pay_session.specs.declared.port.Role.{Role}
 use Rattle.pay_lanes.specs.Words.{LaneParts, IsSameLane}
 use Rattle.pay_serve.specs.Begins.{HasGoneIf}
 use Rattle.pay_serve.specs.Lanes.{HasGoneOn}
@@ -82,28 +83,28 @@ through R S T both (x ∷ xs) [] zs first second = absurd first
 through R S T both (x ∷ xs) (y ∷ ys) [] first second = absurd second
 through R S T both (x ∷ xs) (y ∷ ys) (z ∷ zs) first second = (both x y z first.0 second.0, through R S T both xs ys zs first.1 second.1)
 
-module _ (zone : TimeZone) where
-  come : (begins : Bool) (ls : List LaneParts) (ts : List Tried) (told_ones : List Informed) (ks : List LaneParts) → AllZip (IsTried zone) ls ts → AllZip (IsToldOf begins) ts told_ones → AllZip GivesBack told_ones ks
-      → AllZip (HasGoneIf begins zone) ls ks
+module _ (port : TimeZone × Role) where
+  come : (begins : Bool) (ls : List LaneParts) (ts : List Tried) (told_ones : List Informed) (ks : List LaneParts) → AllZip (IsTried port) ls ts → AllZip (IsToldOf begins) ts told_ones → AllZip GivesBack told_ones ks
+      → AllZip (HasGoneIf begins port) ls ks
   come begins ls ts told_ones ks tried told back =
-      through (IsInformed begins zone) GivesBack (HasGoneIf begins zone) (λ l a k is gives. gives begins zone l is) ls told_ones ks
-      (through (IsTried zone) (IsToldOf begins) (IsInformed begins zone) (λ l t a is tells. tells zone l is) ls ts told_ones tried told) back
+      through (IsInformed begins port) GivesBack (HasGoneIf begins port) (λ l a k is gives. gives begins port l is) ls told_ones ks
+      (through (IsTried port) (IsToldOf begins) (IsInformed begins port) (λ l t a is tells. tells port l is) ls ts told_ones tried told) back
 
-  gone : (begins : Bool) (ls ks : List LaneParts) → AllZip (HasGoneIf begins zone) ls ks → AllZip (HasGoneOn zone) ls ks
+  gone : (begins : Bool) (ls ks : List LaneParts) → AllZip (HasGoneIf begins port) ls ks → AllZip (HasGoneOn port) ls ks
   gone begins [] [] all = tt
   gone begins [] (k ∷ ks) all = absurd all
   gone begins (l ∷ ls) [] all = absurd all
   gone begins (l ∷ ls) (k ∷ ks) all = (all.0.gone, gone begins ls ks all.1)
 
-  stay : (begins : Bool) (ls ks : List LaneParts) → begins ≡ false → AllZip (HasGoneIf begins zone) ls ks → ks ≡ ls
+  stay : (begins : Bool) (ls ks : List LaneParts) → begins ≡ false → AllZip (HasGoneIf begins port) ls ks → ks ≡ ls
   stay begins [] [] is all = refl
   stay begins [] (k ∷ ks) is all = absurd all
   stay begins (l ∷ ls) [] is all = absurd all
   stay begins (l ∷ ls) (k ∷ ks) is all = let first : k ≡ l = all.0.stays is in let rest : ks ≡ ls = stay begins ls ks is all.1 in λ i. first i ∷ rest i
 
   -- lanes that were tried, and told whether they begin, have gone on
-  pub all_gone : (begins : Bool) (ls : List LaneParts) (ts : List Tried) (told_ones : List Informed) (ks : List LaneParts) → AllZip (IsTried zone) ls ts → AllZip (IsToldOf begins) ts told_ones → AllZip GivesBack told_ones ks
-      → AllZip (HasGoneOn zone) ls ks
+  pub all_gone : (begins : Bool) (ls : List LaneParts) (ts : List Tried) (told_ones : List Informed) (ks : List LaneParts) → AllZip (IsTried port) ls ts → AllZip (IsToldOf begins) ts told_ones → AllZip GivesBack told_ones ks
+      → AllZip (HasGoneOn port) ls ks
   all_gone begins ls ts told_ones ks tried told back = gone begins ls ks (come begins ls ts told_ones ks tried told back)
 
   told_no : (begins : Bool) → true ≡ not begins → begins ≡ false
@@ -112,11 +113,11 @@ module _ (zone : TimeZone) where
 
   -- and are as they were, where one was refused
   pub all_stay : (refused : Option LaneFault) (begins : Bool) (ls : List LaneParts) (ts : List Tried) (told_ones : List Informed) (ks : List LaneParts) → is_some refused ≡ not begins
-      → AllZip (IsTried zone) ls ts → AllZip (IsToldOf begins) ts told_ones → AllZip GivesBack told_ones ks → IfSome refused (λ _. ks ≡ ls)
+      → AllZip (IsTried port) ls ts → AllZip (IsToldOf begins) ts told_ones → AllZip GivesBack told_ones ks → IfSome refused (λ _. ks ≡ ls)
   all_stay None begins ls ts told_ones ks is tried told back = tt
   all_stay (Some fault) begins ls ts told_ones ks is tried told back = stay begins ls ks (told_no begins is) (come begins ls ts told_ones ks tried told back)
 
   -- lanes that nobody has are as they were
-  pub none_gone : ((l : LaneParts) → IsSameLane l l) → (ls : List LaneParts) → AllZip (HasGoneOn zone) ls ls
+  pub none_gone : ((l : LaneParts) → IsSameLane l l) → (ls : List LaneParts) → AllZip (HasGoneOn port) ls ls
   none_gone itself [] = tt
   none_gone itself (l ∷ ls) = (record { same = itself l; asked = λ asked. asked }, none_gone itself ls)

@@ -2,6 +2,7 @@
 use Rattle.std.specs.Prelude.{◌≡◌, Bool, false, List, [], ◌∷◌, ◌++◌, refl}
 use Rattle.std.specs.Coded.{Coded, code_by, coded×, coded_bool, coded_list}
 use Rattle.jiff.specs.declared.tz.timezone.TimeZone.{TimeZone}
+use Rattle.pay_session.specs.declared.port.Role.{Role}
 use Rattle.pay_mailbox.specs.Words.{MailboxParts, SenderParts, ReceiverParts, mailbox_code}
 use Rattle.pay_lanes.specs.Words.{LaneParts}
 use Rattle.pay_serve.specs.Lanes.{HasGoneOn}
@@ -36,11 +37,11 @@ having_told begins told = line begins.mailbox (told ∷ [])
 abbrev pub having_heard : LineParts → Bool → LineParts
 having_heard awaits told = line awaits.mailbox (awaits.told ++ told ∷ [])
 
--- A lane has gone on in a zone; but if it does not begin, it is as it was.
-pub record HasGoneIf (begins : Bool) (zone : TimeZone) (before after : LaneParts) : Type 0 where
-  pub gone : HasGoneOn zone before after
+-- A lane has gone on at a port; but if it does not begin, it is as it was.
+pub record HasGoneIf (begins : Bool) (port : TimeZone × Role) (before after : LaneParts) : Type 0 where
+  pub gone : HasGoneOn port before after
   pub stays : begins ≡ false → after ≡ before
 
 -- A lane was told whether it begins, and has gone on by it. Before and after are the lane, and its end of the line.
-abbrev pub HasServed : TimeZone → LaneParts × LineParts → LaneParts × LineParts → Type 0
-HasServed zone before after = (begins : Bool) × (after.1 ≡ having_heard before.1 begins) × HasGoneIf begins zone before.0 after.0
+abbrev pub HasServed : TimeZone × Role → LaneParts × LineParts → LaneParts × LineParts → Type 0
+HasServed port before after = (begins : Bool) × (after.1 ≡ having_heard before.1 begins) × HasGoneIf begins port before.0 after.0

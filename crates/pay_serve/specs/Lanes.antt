@@ -1,14 +1,15 @@
 -- The lanes of a service.
-use Rattle.std.specs.Prelude.{◌≤◌, List, ◌∷◌, [], ◌++◌, length}
+use Rattle.std.specs.Prelude.{◌≡◌, ◌≤◌, List, ◌∷◌, [], ◌++◌, length}
 use Rattle.std.specs.List.{AllByRecursion}
 use Rattle.jiff.specs.declared.tz.timezone.TimeZone.{TimeZone}
 use Rattle.pay_shard.specs.declared.limits.TheConstants.{MOST_SHARDS}
 use Rattle.pay_mailbox.specs.Words.{ReceiverParts}
 use Rattle.pay_shard.specs.declared.item.Entry.{Entry}
 use Rattle.pay_shard.specs.declared.reply.Answer.{Answer}
-use Rattle.pay_session.specs.Words.{IsAskedIn}
+use Rattle.pay_session.specs.Words.{IsAskedIn, IsAllowed, AreAskedAt}
+use Rattle.pay_session.specs.declared.port.Role.{Role}
 use Rattle.pay_lanes.specs.Words.{LaneParts, WorkerParts, IsSameLane, AreTogether, AreAll}
-use Rattle.pay_office.specs.Words.{all_sent}
+use Rattle.pay_office.specs.Words.{LaneDeskParts, all_sent, commands_sent, NoneIsHidden}
 use Rattle.pay_office.specs.declared.office.StartFault.{StartFault}
 use Rattle.pay_office.specs.declared.office.StartFault.TheVariants as starting
 use Rattle.pay_serve.specs.declared.begins.LaneFault.{LaneFault}
@@ -28,10 +29,21 @@ AreAllWith office lanes last = AreTogether office (lanes ++ last ∷ []) × AreA
 abbrev pub HasAskedIn : TimeZone → LaneParts → Type 0
 HasAskedIn zone l = AllByRecursion (λ (e : Entry). IsAskedIn zone e.command) (all_sent l.shards)
 
--- A lane has gone on in a zone: it is the same end, and if all that it had sent is asked for there, so is all that it has.
-pub record HasGoneOn (zone : TimeZone) (before after : LaneParts) : Type 0 where
+-- and who may ask there may ask for it
+pub record HasAskedAt (port : TimeZone × Role) (l : LaneParts) : Type 0 where
+  pub asked : HasAskedIn port.0 l
+  pub allowed : AllByRecursion (λ (e : Entry). IsAllowed port.1 e.command) (all_sent l.shards)
+
+-- A lane has gone on in a zone, for whoever may ask there: it is the same end, and if all that it had sent is asked for there, so is all that
+-- it has.
+pub record HasGoneOn (port : TimeZone × Role) (before after : LaneParts) : Type 0 where
   pub same : IsSameLane before after
-  pub asked : HasAskedIn zone before → HasAskedIn zone after
+  pub asked : HasAskedAt port before → HasAskedAt port after
+
+-- what a lane sent is asked for at a port where what a desk took over it is, since that began with the lane
+abbrev pub LanesAsk : Type 0
+LanesAsk = (zone : TimeZone) (role : Role) (lane after : LaneParts) (began now : LaneDeskParts) → began ≡ record { began = lane; lane = lane; waiting = [] } → after ≡ now.lane
+    → AreAskedAt zone role (commands_sent began.lane) (commands_sent now.lane) → NoneIsHidden after → HasAskedAt (zone, role) lane → HasAskedAt (zone, role) after
 
 -- why nothing is served where no office begins
 abbrev pub serve_fault : StartFault → ServeFault

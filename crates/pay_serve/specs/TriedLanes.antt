@@ -1,6 +1,7 @@
 -- Lanes for which threads were asked.
 use Rattle.std.specs.Prelude.{◌≡◌, Bool, List, [], ◌∷◌, Option, Some, None, Result, Ok, Err, IfOk, IfErr}
 use Rattle.jiff.specs.declared.tz.timezone.TimeZone.{TimeZone}
+use Rattle.pay_session.specs.declared.port.Role.{Role}
 use Rattle.pay_lanes.specs.Words.{LaneParts}
 use Rattle.pay_serve.specs.Begins.{HasGoneIf}
 use Rattle.pay_serve.specs.declared.begins.LaneFault.{LaneFault}
@@ -25,24 +26,24 @@ abbrev pub first_refused : List Tried → Option LaneFault
 first_refused [] = None
 first_refused (t ∷ tried) = first_of (refused_of t.lane) (first_refused tried)
 
--- a promise that is of this lane, in a zone
-abbrev pub IsPromised : TimeZone → LaneParts → GoesOn → Type 0
-IsPromised zone lane it = (it.zone ≡ zone) × (it.began.value.lane ≡ lane)
+-- a promise that is of this lane, at a port
+abbrev pub IsPromised : TimeZone × Role → LaneParts → GoesOn → Type 0
+IsPromised port lane it = ((it.zone, it.role) ≡ port) × (it.began.value.lane ≡ lane)
 
 -- A lane has a thread, which was not told yet whether it begins; or it is still here, as it was.
-pub record IsTried (zone : TimeZone) (lane : LaneParts) (tried : Tried) : Type 0 where
-  pub there : IfOk tried.lane (λ (b : Begun). IsPromised zone lane b.thread.promise)
+pub record IsTried (port : TimeZone × Role) (lane : LaneParts) (tried : Tried) : Type 0 where
+  pub there : IfOk tried.lane (λ (b : Begun). IsPromised port lane b.thread.promise)
   pub here : IfErr tried.lane (λ e. e.1 ≡ lane)
 
 -- A lane has a thread, which was told whether it begins; or it is still here, as it was.
-pub record IsInformed (begins : Bool) (zone : TimeZone) (lane : LaneParts) (informed : Informed) : Type 0 where
-  pub there : IfOk informed.lane (λ (g : Going). IsPromised zone lane g.thread.promise × (g.told.told ≡ begins ∷ []))
+pub record IsInformed (begins : Bool) (port : TimeZone × Role) (lane : LaneParts) (informed : Informed) : Type 0 where
+  pub there : IfOk informed.lane (λ (g : Going). IsPromised port lane g.thread.promise × (g.told.told ≡ begins ∷ []))
   pub here : IfErr informed.lane (λ l. l ≡ lane)
 
 -- what was tried is told whether it begins
 abbrev pub IsToldOf : Bool → Tried → Informed → Type 0
-IsToldOf begins tried informed = (zone : TimeZone) (lane : LaneParts) → IsTried zone lane tried → IsInformed begins zone lane informed
+IsToldOf begins tried informed = (port : TimeZone × Role) (lane : LaneParts) → IsTried port lane tried → IsInformed begins port lane informed
 
 -- the lane that comes back of what was told has gone on by that
 abbrev pub GivesBack : Informed → LaneParts → Type 0
-GivesBack informed after = (begins : Bool) (zone : TimeZone) (lane : LaneParts) → IsInformed begins zone lane informed → HasGoneIf begins zone lane after
+GivesBack informed after = (begins : Bool) (port : TimeZone × Role) (lane : LaneParts) → IsInformed begins port lane informed → HasGoneIf begins port lane after

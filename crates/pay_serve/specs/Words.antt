@@ -3,7 +3,7 @@
 pub use Rattle.pay_serve.specs.Causes.{IsOutOfPlan, IsServeCause}
 pub use Rattle.pay_serve.specs.Closes.{Closing, IsWritten, IsClosedOver, new_desk, IsClosedThrough, IsTold, DayOf, day_of, IsDayClosed, Terms, terms, terms_of, IsServedBy, IsServed, IsServedWith, IsRefusedAgain, IsStopped}
 pub use Rattle.pay_serve.specs.Journals.{journal_fault, AreTakenAgain, AreTakenThrough, is_one_stuck, told_with}
-pub use Rattle.pay_serve.specs.Lanes.{HasShards, AreAllWith, HasAskedIn, HasGoneOn}
+pub use Rattle.pay_serve.specs.Lanes.{HasShards, AreAllWith, HasAskedIn, HasAskedAt, HasGoneOn}
 pub use Rattle.pay_serve.specs.LeftGates.{AreAllGates, AreUnserved, IsLeftIn}
 pub use Rattle.pay_serve.specs.Machines.{AreFronts, IsOneClose, IsAskedAfter, AreAskedAfter, IsOneCloseOf, IsNewOffice, IsOver, IsOverAsOne, ClosesAreOne}
 pub use Rattle.pay_serve.specs.Keeping.{is_other, is_kept, kept_line, kept_lines, of_others}

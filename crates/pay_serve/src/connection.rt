@@ -1,17 +1,19 @@
 //! The connections of a lane, one after another.
-ghost use Rattle.std.specs.Prelude.{◌≡◌};
+ghost use Rattle.std.specs.Prelude.{◌≡◌, length, IfOk};
 ghost use Rattle.pay_session.specs.Words.{AreAskedIn};
 ghost use Rattle.pay_lanes.specs.Words.{IsSameLane};
-ghost use Rattle.pay_serve.specs.Lanes.{HasShards, HasAskedIn};
+ghost use Rattle.pay_serve.specs.Lanes.{HasShards, HasAskedAt};
+ghost use Rattle.pay_session.specs.declared.port.Role.TheVariants.{All};
 
 use crate::limits::{LAST_BYTES, LAST_READS, LAST_WAIT};
+use crate::place::Place;
 use crate::sides::{ReadSide, Unsent, WriteSide};
 use jiff::tz::TimeZone;
 use pay_office::{Lane, LaneDesk};
-use pay_session::session;
+use pay_session::{Role, session};
 use pay_shard::Desk;
 use pay_till::NoTill;
-use std::alloc::Global;
+use std::alloc::{AllocError, Global};
 use std::io::{BufReader, Read};
 use std::net::{Shutdown, TcpListener, TcpStream};
 use std::sync::Wait;
@@ -103,9 +105,45 @@ pub fn serve_lane<R: Wait + Copy>(
 ) -> Lane
     requires { HasShards lane }
     ensures same { IsSameLane lane result }
-    ensures asked { HasAskedIn zone.now lane → HasAskedIn zone.now result }
+    ensures asked { HasAskedAt (zone.now, All) lane → HasAskedAt (zone.now, All) result }
 {
     let mut desk = LaneDesk::new(rt, alloc, lane);
     serve_connections(alloc, listener, sessions, zone, &mut desk);
     desk.into_lane()
+}
+
+/// So many connections of a listener, one after another. There all may be asked for, but no day is closed.
+#[derive(Drop)]
+pub struct Connections {
+    pub listener: TcpListener,
+    pub sessions: u32,
+}
+
+impl Place for Connections {
+    ghost use Rattle.pay_session.specs.declared.port.Role.TheVariants.{All};
+
+    ghost asks = { All };
+
+    fn role() -> Role {
+        Role::All
+    }
+
+    fn serve<R: Wait + Copy>(self, rt: R, alloc: Global, zone: &TimeZone<'_>, lane: Lane) -> Lane {
+        serve_lane(rt, alloc, &self.listener, self.sessions, zone, lane)
+    }
+}
+
+/// A place for each listener, in order, of so many connections. `Err` is want of memory.
+pub fn places(
+    alloc: Global,
+    sessions: u32,
+    listeners: Vec<TcpListener>,
+) -> Result<Vec<Connections>, AllocError>
+    ensures { IfOk result (λ places. length places.items ≡ length listeners.items) }
+{
+    let mut places = Vec::with_capacity(alloc, listeners.len())?;
+    for listener in listeners {
+        places.push_reserved(Connections { listener, sessions });
+    }
+    Ok(places)
 }

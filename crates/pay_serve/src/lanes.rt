@@ -6,12 +6,11 @@ ghost use Rattle.pay_serve.specs.Lanes.{HasShards, HasGoneOn};
 ghost use Rattle.pay_serve.specs.TriedLanes.{IsTried, IsToldOf, GivesBack, first_of, first_refused, refused_of};
 
 use crate::begins::{Begins, LaneFault};
-use crate::connection::serve_lane;
+use crate::place::Place;
 use crate::threads::{Begun, GoesOn, Going, Serving};
 use jiff::tz::TimeZone;
 use pay_office::Lane;
 use std::alloc::{AllocError, Global};
-use std::net::TcpListener;
 use std::snapshot::Snapshot;
 use std::sync::Wait;
 use std::thread;
@@ -31,64 +30,48 @@ pub struct Informed {
 
 /// What the thread of a lane is given beside the lane.
 #[derive(Drop)]
-struct Place {
+struct Task<P: Place> {
     alloc: Global,
-    sessions: u32,
     zone: TimeZone<'static>,
-    listener: TcpListener,
+    place: P,
 }
 
-/// Waits until it is told whether the lane begins, and serves the connections of a place over it if so.
-fn serve_place<R: Wait + Copy>(rt: R, place: Place, serving: Serving) -> Serving
+/// Waits until it is told whether the lane begins, and serves whoever comes to a place over it if so.
+fn serve_place<R: Wait + Copy, P: Place>(rt: R, task: Task<P>, serving: Serving) -> Serving
     requires { HasShards serving.lane }
-    ensures { HasServed place.zone (serving.lane, serving.awaits) (result.lane, result.awaits) }
+    ensures { HasServed (task.zone, P.asks) (serving.lane, serving.awaits) (result.lane, result.awaits) }
 {
     pay_lanes::laws::same_lanes();
-    let Place {
-        alloc,
-        sessions,
-        zone,
-        listener,
-    } = place;
+    let Task { alloc, zone, place } = task;
     let Serving { lane, mut awaits } = serving;
     if !awaits.wait(&rt) {
         return Serving { lane, awaits };
     }
-    let lane = serve_lane(rt, alloc, &listener, sessions, &zone, lane);
+    let lane = place.serve(rt, alloc, &zone, lane);
     Serving { lane, awaits }
 }
 
 /// Asks for a thread for a lane, which waits until it is told whether the lane begins.
-fn begin<R>(
-    rt: R,
-    alloc: Global,
-    sessions: u32,
-    zone: TimeZone<'static>,
-    listener: TcpListener,
-    lane: Lane,
-) -> Tried
+fn begin<R, P>(rt: R, alloc: Global, zone: TimeZone<'static>, place: P, lane: Lane) -> Tried
 where
     R: Threads + Wait + Copy + Send + 'static,
+    P: Place + Send + 'static,
     requires { HasShards lane }
-    ensures { IsTried zone.entry lane result }
+    ensures { IsTried (zone.entry, P.asks) lane result }
 {
     let Ok((begins, awaits)) = Begins::open(alloc) else {
         return Tried {
             lane: Err((LaneFault::Memory, lane)),
         };
     };
-    let place = Place {
-        alloc,
-        sessions,
-        zone,
-        listener,
-    };
+    let task = Task { alloc, zone, place };
     let serving = Serving { lane, awaits };
     let goes_on = GoesOn {
         began: Snapshot::of(&serving),
         zone,
+        role: P::role(),
     };
-    match thread::spawn_with(&rt, goes_on, move || serve_place(rt, place, serving)) {
+    match thread::spawn_with(&rt, goes_on, move || serve_place(rt, task, serving)) {
         Ok(thread) => Tried {
             lane: Ok(Begun { thread, begins }),
         },
@@ -153,29 +136,29 @@ impl Informed {
     }
 }
 
-/// Asks for a thread for each lane, with the listener beside it, and puts the lanes into a list that has room for them. Why the first
+/// Asks for a thread for each lane, with the place beside it, and puts the lanes into a list that has room for them. Why the first
 /// that was refused was so.
-fn begin_all<R>(
+fn begin_all<R, P>(
     rt: R,
     alloc: Global,
-    sessions: u32,
     zone: TimeZone<'static>,
-    listeners: Vec<TcpListener>,
+    places: Vec<P>,
     lanes: Vec<Lane>,
     tried: &mut Vec<Tried>,
 ) -> Option<LaneFault>
 where
     R: Threads + Wait + Copy + Send + 'static,
-    requires count { length listeners.items ≡ length lanes.items }
+    P: Place + Send + 'static,
+    requires count { length places.items ≡ length lanes.items }
     requires shards { All HasShards lanes.items }
     requires room { length lanes.items ≤ vec_capacity tried.old }
     requires empty { tried.old.items ≡ [] }
-    ensures tried { AllZip (IsTried zone.entry) lanes.items tried.new.items }
+    ensures tried { AllZip (IsTried (zone.entry, P.asks)) lanes.items tried.new.items }
     ensures refused { result ≡ first_refused tried.new.items }
 {
     let mut refused = None;
-    for (listener, lane) in listeners.into_iter().zip(lanes) {
-        let one = begin(rt, alloc, sessions, zone, listener, lane);
+    for (place, lane) in places.into_iter().zip(lanes) {
+        let one = begin(rt, alloc, zone, place, lane);
         refused = one.or_refused(refused);
         tried.push_reserved(one);
     }
@@ -231,23 +214,23 @@ fn room(alloc: Global, lanes: usize, back: usize) -> Result<Lists, AllocError>
     })
 }
 
-/// Serves the connections of lanes, each lane's at the listener beside it and in a thread of its own, one after another, until all
-/// have ended. The lanes come back in their order, each the same end of the same queues, and have sent nothing but what lines ask for.
-/// Where one gets no thread, none begins: they come back as they were, with why the first was refused one.
-pub fn serve_lanes<R>(
+/// Serves whoever comes to the places of lanes, each lane's at the place beside it and in a thread of its own, until all have ended. The
+/// lanes come back in their order, each the same end of the same queues, and have sent nothing but what lines ask for, of whoever may ask
+/// there. Where one gets no thread, none begins: they come back as they were, with why the first was refused one.
+pub fn serve_lanes<R, P>(
     rt: R,
     alloc: Global,
-    sessions: u32,
     zone: TimeZone<'static>,
-    listeners: Vec<TcpListener>,
+    places: Vec<P>,
     lanes: Vec<Lane>,
 ) -> (Option<LaneFault>, Vec<Lane>)
 where
     R: Threads + Wait + Copy + Send + 'static,
-    requires count { length listeners.items ≡ length lanes.items }
+    P: Place + Send + 'static,
+    requires count { length places.items ≡ length lanes.items }
     requires shards { All HasShards lanes.items }
     requires room { length lanes.items < vec_capacity lanes }
-    ensures served { AllZip (HasGoneOn zone.entry) lanes.items result.1.items }
+    ensures served { AllZip (HasGoneOn (zone.entry, P.asks)) lanes.items result.1.items }
     ensures unserved { IfSome result.0 (λ _. result.1.items ≡ lanes.items) }
     ensures room { length result.1.items < vec_capacity result.1 }
 {
@@ -260,7 +243,7 @@ where
         mut informed,
         mut back,
     } = made;
-    let refused = begin_all(rt, alloc, sessions, zone, listeners, lanes, &mut tried);
+    let refused = begin_all(rt, alloc, zone, places, lanes, &mut tried);
     tell_all(&rt, tried, refused.is_none(), &mut informed);
     end_all(&rt, informed, &mut back);
     (refused, back)

@@ -2,6 +2,7 @@
 //! its function.
 ghost use Rattle.pay_serve.specs.KeepingGates.{HoldsPassed};
 ghost use Rattle.pay_serve.specs.Kept.{KeptAreNew, PassedAreKept};
+ghost use Rattle.pay_serve.specs.Lanes.{LanesAsk};
 ghost use Rattle.pay_serve.specs.Machines.{ClosesAreOne};
 
 use pay_journal::Keeper;
@@ -24,3 +25,8 @@ pub fn closes_are_one()
 {
     pay_close::laws::any_shards();
 }
+
+/// What a lane has sent is asked for at a port, where what a desk took over it is.
+pub fn lanes_ask()
+    ensures { LanesAsk }
+{}

@@ -15,6 +15,7 @@ ghost use Rattle.pay_serve.specs.Lanes.{HasShards, AreAllWith};
 ghost use Rattle.pay_serve.specs.Machines.{IsNewOffice};
 
 use crate::closing::{close_day, end};
+use crate::connection::places;
 use crate::fault::ServeFault;
 use crate::gate::KeepingGate;
 use crate::gates::{all_gates, is_one_stuck};
@@ -121,6 +122,7 @@ where
         texts,
         keepers,
     } = given;
+    let places = places(alloc, plan.sessions, listeners)?;
     let (office, first, lanes) = open_office::<F, R, K>(rt, alloc, editions, &plan, keepers)?;
     let (taken, last) = take_through(rt, alloc, texts, &zone, first);
     match taken {
@@ -130,7 +132,7 @@ where
             return Err(fault);
         }
     }
-    let (refused, back) = serve_lanes(rt, alloc, plan.sessions, zone, listeners, lanes);
+    let (refused, back) = serve_lanes(rt, alloc, zone, places, lanes);
     if let Some(fault) = refused {
         *gates = end(&rt, office, back, last);
         return Err(ServeFault::from(fault));

@@ -5,6 +5,7 @@ ghost use Rattle.pay_serve.specs.Begins.{line};
 use crate::begins::{Awaits, Begins, Told};
 use jiff::tz::TimeZone;
 use pay_office::Lane;
+use pay_session::Role;
 use std::snapshot::Snapshot;
 use std::thread::{Promise, PromisedHandle};
 
@@ -16,17 +17,18 @@ pub struct Serving {
 }
 
 /// That a lane is told whether it begins, and goes on by it as the same end of the same queues: it sends nothing but what lines ask for
-/// in a zone, and nothing at all if it does not begin.
+/// in a zone, of whoever may ask there, and nothing at all if it does not begin.
 #[derive(Drop)]
 pub struct GoesOn {
     pub began: Snapshot<Serving>,
     pub zone: TimeZone<'static>,
+    pub role: Role,
 }
 
 impl Promise<Serving> for GoesOn {
     ghost use Rattle.pay_serve.specs.Begins.{HasServed};
 
-    ghost kept_by = { λ it after. HasServed it.zone (it.began.value.lane, it.began.value.awaits) (after.lane, after.awaits) };
+    ghost kept_by = { λ it after. HasServed (it.zone, it.role) (it.began.value.lane, it.began.value.awaits) (after.lane, after.awaits) };
 }
 
 /// The thread of a lane, which waits until it is told whether it begins, and what tells it.

@@ -1,3 +1,4 @@
+pub mod AskedAt
 pub mod AskedFor
 pub mod BegunLines
 pub mod Fills

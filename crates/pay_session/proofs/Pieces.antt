@@ -97,6 +97,8 @@ module _ {D O T K : Type 0} (parts : D → DeskParts O) (Closes : T → ℕ → 
       answered = answered f.quits.done f.quits.events a b f.quits.runs;
       written = f.quits.told.written;
       lines = λ input is more. requests_beyond input p.line piece more f.quits.done is (f.quits.requests more _);
+      quits = λ input is more. ap (list_any is_quit) (lines_beyond input p.line piece more is) ∙ list_any-append is_quit (line_requests input) (line_requests ((p.line ++ piece) ++ more))
+          ∙ ap (λ b. b || list_any is_quit (line_requests ((p.line ++ piece) ++ more))) is.goes_on ∙ f.quits.quits more;
       unread = λ input is more. unread_beyond input p.line piece more is ∙ f.quits.unread more;
     }
 
@@ -117,8 +119,8 @@ module _ {D O T K : Type 0} (parts : D → DeskParts O) (Closes : T → ℕ → 
       lines = λ input is more. let asked = f.requests more (request_of_rest (rest_of ((input ++ piece) ++ more))) in (asked.0, requests_beyond input p.line piece more (f.done ++ asked.0) is asked.1);
     }
 
-    pub ends_pieces : has_newline p.line ≡ false → EndsRest (Serves parts Closes till_origin) (at p a held) (at q b new) → EndsPieces parts Closes a.port (at_hand a p held) (at_hand b q new)
-    ends_pieces unended f = record {
+    pub ends_pieces : has_newline p.line ≡ false → EndsRest (Serves parts Closes till_origin) (at p a held) (at q b new) → (r : Progress) → EndsPieces parts Closes a.port (at_hand a p held) (at_hand b r new)
+    ends_pieces unended f r = record {
       requests = request_of_rest p.line;
       events = f.events;
       answered = answered (request_of_rest p.line) f.events a b f.runs;
@@ -126,8 +128,8 @@ module _ {D O T K : Type 0} (parts : D → DeskParts O) (Closes : T → ℕ → 
       lines = λ input is. at_the_end input p.line unended is;
     }
 
-    pub stops_at_end : has_newline p.line ≡ false → FaltersAtRest (Serves parts Closes till_origin) (at p a held) (at q b new) → StopsAtEnd parts Closes a.port (at_hand a p held) (at_hand b q new)
-    stops_at_end unended f = record {
+    pub stops_at_end : has_newline p.line ≡ false → FaltersAtRest (Serves parts Closes till_origin) (at p a held) (at q b new) → (r : Progress) → StopsAtEnd parts Closes a.port (at_hand a p held) (at_hand b r new)
+    stops_at_end unended f r = record {
       requests = f.request ∷ [];
       next = f.falters.event;
       answered = answered (f.request ∷ []) (f.falters.event ∷ []) a b (Runs_one (Serves parts Closes till_origin) f.request f.falters.event a b f.falters.serves);

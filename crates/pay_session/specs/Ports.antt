@@ -7,6 +7,7 @@ use Rattle.pay_shard.specs.declared.asked.Asked.{Asked}
 use Rattle.pay_shard.specs.declared.asked.Asked.TheVariants as asked
 use Rattle.pay_wire.specs.declared.command.SpelledCommand.{SpelledCommand}
 use Rattle.pay_wire.specs.declared.command.SpelledCommand.TheVariants as command
+use Rattle.pay_wire.specs.declared.command.SpelledFix.{SpelledFix}
 use Rattle.pay_wire.specs.declared.refusal.Refusal.TheVariants as refusal
 use Rattle.pay_session.specs.Asks.{asks_of}
 use Rattle.pay_session.specs.AskedFor.{AreAllAskedIn}
@@ -78,3 +79,19 @@ close_of_a_reader port taps = rw taps refl
 close_of_staff : (port : Port) → port.role ≡ All → asks_at port (request.Command (command.Close 19_730)) ≡ asks.Close 19_730
 unfolding asks_at asks_of
 close_of_staff port all = elim port.latest as (λ latest. (if is_allowed port.role (command.Close 19_730) then (if is_ahead latest (command.Close 19_730) then asks.No refusal.OutOfTime else asks.Close 19_730) else asks.No refusal.NotHere) ≡ asks.Close 19_730) [ None ↦ rw all refl | Some latest ↦ rw all refl ]
+
+-- so does a correction
+fix_of_a_reader : (port : Port) (line : SpelledFix) → port.role ≡ Taps → asks_at port (request.Command (command.Fix line)) ≡ asks.No refusal.NotHere
+unfolding asks_at
+fix_of_a_reader port line taps = rw taps refl
+
+-- a reader may end its session
+quit_of_a_reader : (zone : TimeZone) → asks_at (record { zone = record { ref_ptr = (0, 0); now = zone }; role = Taps; latest = Some 0 }) (request.Command command.Quit) ≡ asks.Quit
+unfolding asks_at asks_of
+quit_of_a_reader zone = refl
+
+-- a tap that is ahead comes to nothing
+ahead_of_a_reader : (port : Port) → port.role ≡ Taps → port.latest ≡ Some 1_704_696_199
+    → asks_at port (request.Command (command.Tap (record { reader = 1; seq = 4; account = 7; utc = 1_704_696_200; place = 50; kind = kind.Bus }))) ≡ asks.No refusal.OutOfTime
+unfolding asks_at
+ahead_of_a_reader port taps latest = rw taps rw latest refl

@@ -65,6 +65,8 @@ fn take_by<W: KnownWriter, D: Desk, T: Till>(
     ensures quit { IfOk result (λ left. IfSome left (λ n. TakesThroughQuit D.parts T.Closes service.old.port (piece.now, n)
         (at_hand service.old progress.old (W.contents writer.old)) (at_hand service.new progress.new (W.contents writer.new)))) }
     ensures within { IfOk result (λ left. IfSome left (λ n. n ≤ length piece.now)) }
+    ensures over { IfOk result (λ left. IfSome left (λ _. progress.new.line ≡ [])) }
+    ensures lost { OnErr result (progress.new.line ≡ []) }
     ensures breaks { OnErr result (StopsInPiece D.parts T.Closes service.old.port piece.now
         (at_hand service.old progress.old (W.contents writer.old)) (at_hand service.new progress.new (W.contents writer.new))) }
     ensures cause { IfErr result (λ fault. IsCaused W.MayAnswer fault writer.new) }
@@ -93,6 +95,7 @@ fn end_by<W: KnownWriter, D: Desk, T: Till>(
 ) -> Result<(), WriteFault>
     requires begun { has_newline progress.old.line ≡ false }
     requires none { progress.old.answered ≡ 0 }
+    ensures anew { (progress.new.line ≡ []) × (progress.new.answered ≡ 0) }
     ensures desk_name { service.new.desk.ghost_name ≡ service.old.desk.ghost_name }
     ensures till_name { service.new.till.ghost_name ≡ service.old.till.ghost_name }
     ensures ends { OnOk result (EndsPieces D.parts T.Closes service.old.port
@@ -106,8 +109,14 @@ fn end_by<W: KnownWriter, D: Desk, T: Till>(
     ensures same_till { T.origin service.new.till.now ≡ T.origin service.old.till.now }
 {
     match progress.end(service, writer) {
-        Ok(()) => Ok(()),
-        Err(stop) => Err(failure(stop)),
+        Ok(()) => {
+            *progress = Progress::new();
+            Ok(())
+        }
+        Err(stop) => {
+            *progress = Progress::new();
+            Err(failure(stop))
+        }
     }
 }
 
@@ -122,7 +131,7 @@ impl Conversation {
     }
 
     /// Takes a piece of the bytes, and answers the lines that end in it at a port, by a desk and a till. Where one is `QUIT` the answer is
-    /// how many bytes of the piece are left after it, and the conversation is over; so it is where the writer fails.
+    /// how many bytes of the piece are left after it, and the conversation is over and begins anew; so it does where the writer fails.
     pub fn take<W: KnownWriter, D: Desk, T: Till>(
         &mut self,
         piece: &[u8],
@@ -136,6 +145,8 @@ impl Conversation {
         ensures quit { IfOk result (λ left. IfSome left (λ n. TakesThroughQuit D.parts T.Closes port.entry (piece.now, n)
             (desk.old, till.old, self.old, W.contents writer.old) (desk.new, till.new, self.new, W.contents writer.new))) }
         ensures within { IfOk result (λ left. IfSome left (λ n. n ≤ length piece.now)) }
+        ensures over { IfOk result (λ left. IfSome left (λ _. self.new ≡ [])) }
+        ensures lost { OnErr result (self.new ≡ []) }
         ensures breaks { OnErr result (StopsInPiece D.parts T.Closes port.entry piece.now
             (desk.old, till.old, self.old, W.contents writer.old) (desk.new, till.new, self.new, W.contents writer.new)) }
         ensures cause { IfErr result (λ fault. IsCaused W.MayAnswer fault writer.new) }
@@ -152,23 +163,27 @@ impl Conversation {
         )
     }
 
-    /// Answers what no newline ended, once the peer sends no more. The conversation is over.
+    /// Answers what no newline ended, once the peer sends no more. The conversation is over, and begins anew.
     pub fn end<W: KnownWriter, D: Desk, T: Till>(
-        self,
+        &mut self,
         writer: &mut W,
         port: Port<'_>,
         desk: &mut D,
         till: &mut T,
     ) -> Result<(), WriteFault>
-        ensures ends { OnOk result (EndsPieces D.parts T.Closes port.entry (desk.old, till.old, self, W.contents writer.old) (desk.new, till.new, [], W.contents writer.new)) }
-        ensures breaks { OnErr result (StopsAtEnd D.parts T.Closes port.entry (desk.old, till.old, self, W.contents writer.old) (desk.new, till.new, [], W.contents writer.new)) }
+        ensures anew { self.new ≡ [] }
+        ensures ends { OnOk result (EndsPieces D.parts T.Closes port.entry (desk.old, till.old, self.old, W.contents writer.old) (desk.new, till.new, self.new, W.contents writer.new)) }
+        ensures breaks { OnErr result (StopsAtEnd D.parts T.Closes port.entry (desk.old, till.old, self.old, W.contents writer.old) (desk.new, till.new, self.new, W.contents writer.new)) }
         ensures cause { IfErr result (λ fault. IsCaused W.MayAnswer fault writer.new) }
         ensures asked { AreAskedAt port.entry.zone.now port.entry.role (D.parts desk.old).taken (D.parts desk.new).taken }
         ensures transcript { NothingIsLost (D.parts desk.old).transcript (D.parts desk.new).transcript }
         ensures same_desk { (D.parts desk.new).standing ≡ (D.parts desk.old).standing }
         ensures same_till { T.origin till.new ≡ T.origin till.old }
     {
-        let mut progress = self.progress;
-        end_by(&mut progress, writer, &mut Service::new(port, desk, till))
+        end_by(
+            &mut self.progress,
+            writer,
+            &mut Service::new(port, desk, till),
+        )
     }
 }

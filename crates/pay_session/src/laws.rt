@@ -5,6 +5,11 @@ ghost use Rattle.std.specs.List.{AllByRecursion, flat_map};
 ghost use Rattle.pay_wire.specs.declared.command.SpelledCommand.TheVariants.{Quit};
 ghost use Rattle.pay_wire.specs.declared.limits.TheConstants.{MOST_LINE_BYTES};
 ghost use Rattle.pay_session.specs.declared.request.Request.TheVariants as requests;
+ghost use Rattle.jiff.specs.declared.tz.timezone.TimeZone.{TimeZone};
+ghost use Rattle.pay_shard.specs.declared.asked.Asked.{Asked};
+ghost use Rattle.pay_session.specs.Pieces.{IsAfter};
+ghost use Rattle.pay_session.specs.Ports.{AreAskedAt};
+ghost use Rattle.pay_session.specs.declared.port.Role.{Role};
 ghost use Rattle.pay_session.specs.Requests.{InputLine, input_lines, rest_of, has_newline, request_of, line_requests, requests_of, quits, unread, HasOneCutting, IsReadByLine, SpellsNothing};
 
 /// The lines and the rest are the input, cut at its newlines, and no other cutting is.
@@ -53,4 +58,13 @@ pub fn session_goes_on()
 /// rest.
 pub fn line_by_line()
     ensures { IsReadByLine }
+{}
+
+/// A conversation begins before all bytes. What a desk took for one piece after another is asked for at their port, and where it took nothing
+/// too.
+pub fn piece_by_piece()
+    ensures first { IsAfter [] [] }
+    ensures none { (zone : TimeZone) (role : Role) (taken : List (ℕ × Asked)) → AreAskedAt zone role taken taken }
+    ensures after { (zone : TimeZone) (role : Role) (before between after : List (ℕ × Asked))
+        → AreAskedAt zone role before between → AreAskedAt zone role between after → AreAskedAt zone role before after }
 {}

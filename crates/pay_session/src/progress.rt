@@ -166,6 +166,7 @@ impl Progress {
         ensures quit { IfOk result (λ left. IfSome left (λ n. TakesToQuit A.Serves (at self.old answers.old (W.contents writer.old)) bytes.now n
             (at self.new answers.new (W.contents writer.new)))) }
         ensures within { IfOk result (λ left. IfSome left (λ n. n ≤ length bytes.now)) }
+        ensures over { IfOk result (λ left. IfSome left (λ _. self.new.line ≡ [])) }
         ensures counted { OnOk result (self.new.answered ≤ self.old.answered + length bytes.now) }
         ensures breaks { OnErr result (Breaks A.Serves (facing (at self.old answers.old (W.contents writer.old)) bytes.now)
             (at self.new answers.new (W.contents writer.new))) }

@@ -9,7 +9,8 @@ use Rattle.pay_serve.specs.Closes.{terms_of}
 use Rattle.pay_serve.specs.Journals.{AreTakenThrough, is_one_stuck, told_with}
 use Rattle.pay_serve.proofs.Going.{all_back, lanes_same}
 use Rattle.pay_serve.proofs.LeftGates.{unopened_left, refused_left, lane_left, told_left}
-use Rattle.pay_serve.proofs.LinesAsked.{all_same, all_asked}
+use Rattle.pay_session.specs.declared.port.Role.TheVariants as role
+use Rattle.pay_serve.proofs.LinesAsked.{all_same, all_asked, all_in}
 use Rattle.pay_serve.proofs.NoneKept.{none_kept}
 use Rattle.pay_serve.proofs.ServeCauses.{within_plan, unopened, unopened_stopped, lane_stopped, line_stopped, told_stopped, unserved_cause, lane_cause, taken_cause, told_cause, told_on_ok}
 use Rattle.pay_serve.proofs.Served.{all_kept}
@@ -26,7 +27,7 @@ pub end-requires-in-Some-clause-all : goal.end-requires-in-Some-clause-all
 end-requires-in-Some-clause-all g c =
     let gone = c.serve_lanes-refused.ensures.served in
     all_back c.still_together.ensures.in_order c.same_workers.ensures.itself c.in_ok-office.office c.in_ok-office.lanes.items c.serve_lanes-refused.result.1.items c.in_ok-office.first c.take_through-taken.result.1
-    (all_same c.args.given.zone _ _ gone) c.take_through-taken.ensures.same c.in_ok-office.ensures.all
+    (all_same (c.args.given.zone, role.All) _ _ gone) c.take_through-taken.ensures.same c.in_ok-office.ensures.all
 
 pub close_day-closed-requires-clause-shards : goal.close_day-closed-requires-clause-shards
 close_day-closed-requires-clause-shards g c =
@@ -38,7 +39,7 @@ pub close_day-closed-requires-clause-all : goal.close_day-closed-requires-clause
 close_day-closed-requires-clause-all g c =
     let gone = c.serve_lanes-refused.ensures.served in
     all_back c.still_together.ensures.in_order c.same_workers.ensures.itself c.in_ok-office.office c.in_ok-office.lanes.items c.serve_lanes-refused.result.1.items c.in_ok-office.first c.take_through-taken.result.1
-    (all_same c.args.given.zone _ _ gone) c.take_through-taken.ensures.same c.in_ok-office.ensures.all
+    (all_same (c.args.given.zone, role.All) _ _ gone) c.take_through-taken.ensures.same c.in_ok-office.ensures.all
 
 pub returns-clause-served : goal.returns-clause-served
 returns-clause-served g c =
@@ -55,8 +56,9 @@ returns-clause-served g c =
         past = subst (AreTakenThrough c.args.given.zone (map vec_items c.args.given.texts.now) c.in_ok-office.first c.take_through-taken.result.1) c.in-Ok.is c.take_through-taken.ensures.taken;
         others = c.serve_lanes-refused.result.1.items;
         all = all_back c.still_together.ensures.in_order c.same_workers.ensures.itself c.in_ok-office.office c.in_ok-office.lanes.items c.serve_lanes-refused.result.1.items c.in_ok-office.first c.take_through-taken.result.1
-            (all_same c.args.given.zone _ _ gone) c.take_through-taken.ensures.same c.in_ok-office.ensures.all;
-        asked = all_asked c.args.given.zone (length c.in_ok-office.office) c.in_ok-office.lanes.items c.serve_lanes-refused.result.1.items c.in_ok-office.ensures.others gone;
+            (all_same (c.args.given.zone, role.All) _ _ gone) c.take_through-taken.ensures.same c.in_ok-office.ensures.all;
+        asked = all_in (c.args.given.zone, role.All) c.serve_lanes-refused.result.1.items
+            (all_asked (c.args.given.zone, role.All) (length c.in_ok-office.office) c.in_ok-office.lanes.items c.serve_lanes-refused.result.1.items c.in_ok-office.ensures.others gone);
         gates = c.close_day-closed.result.1.items;
         began = c.close_day-closed.ensures.began ∙ c.in_ok-office.ensures.began;
         told = c.close_day-closed.result.0;
@@ -69,7 +71,7 @@ returns-clause-served g c =
 
 pub returns-in_err-office-clause-cause : goal.returns-in_err-office-clause-cause
 returns-in_err-office-clause-cause g c =
-    let p = err_from_is_err_and c.from_residual.result c.from_residual.ensures.1 in
+    let p = err_from_is_err_and c.from_residual-in_err-office.result c.from_residual-in_err-office.ensures.1 in
     rw (p.1, p.2) (unserved_cause g.W.KnownWriter.MayAnswer (CanFail g.K.Keeper.HasFailed) c.args.given.plan _ _ (unopened c.args.given.plan _ c.in_err-office.ensures.cause))
 
 pub returns-in-Err-clause-cause : goal.returns-in-Err-clause-cause
@@ -93,7 +95,7 @@ returns-clause-within g c = within_plan c.told_with-told.result _ c.in_ok-office
 
 pub returns-in_err-office-clause-stopped : goal.returns-in_err-office-clause-stopped
 returns-in_err-office-clause-stopped g c =
-    let p = err_from_is_err_and c.from_residual.result c.from_residual.ensures.1 in
+    let p = err_from_is_err_and c.from_residual-in_err-office.result c.from_residual-in_err-office.ensures.1 in
     rw (p.1, p.2) (unopened_stopped _ c.args.given.plan _ c.in_err-office.ensures.cause)
 
 pub returns-in-Err-clause-stopped : goal.returns-in-Err-clause-stopped
@@ -120,7 +122,7 @@ returns-clause-stopped g c = told_stopped _ _ _ c.close_day-closed.result.0 _ c.
 
 pub returns-in_err-office-clause-gates : goal.returns-in_err-office-clause-gates
 returns-in_err-office-clause-gates g c =
-    let p = err_from_is_err_and c.from_residual.result c.from_residual.ensures.1 in
+    let p = err_from_is_err_and c.from_residual-in_err-office.result c.from_residual-in_err-office.ensures.1 in
     rw (p.1, p.2) (unopened_left _ _ c.args.given.plan _ c.requires.empty c.in_err-office.ensures.cause)
 
 pub returns-in-Err-clause-gates : goal.returns-in-Err-clause-gates
@@ -143,7 +145,7 @@ returns-in-Some-clause-gates g c =
     let ls = c.serve_lanes-refused.result.1.items in
     let last = c.take_through-taken.result.1 in
     let back = all_back c.still_together.ensures.in_order c.same_workers.ensures.itself c.in_ok-office.office c.in_ok-office.lanes.items ls c.in_ok-office.first last
-    (all_same c.args.given.zone _ _ c.serve_lanes-refused.ensures.served) c.take_through-taken.ensures.same opened.all in
+    (all_same (c.args.given.zone, role.All) _ _ c.serve_lanes-refused.ensures.served) c.take_through-taken.ensures.same opened.all in
     let as_were : ls ≡ c.in_ok-office.lanes.items = subst (λ (r : Option LaneFault). IfSome r (λ _. ls ≡ c.in_ok-office.lanes.items)) c.in-Some.is c.serve_lanes-refused.ensures.unserved in
     let over = c.end-in-Some.ensures.over in
     lane_left _ c.end-in-Some.result.items c.in-Some.fault _ (c.end-in-Some.ensures.began ∙ opened.began)

@@ -9,7 +9,7 @@ pub returns-in-Ok-clause-till_name : goal.returns-in-Ok-clause-till_name
 returns-in-Ok-clause-till_name g c = (ran g.D.Desk.parts g.T.Till.Closes g.T.Till.origin _ _ c.end.ensures.ran).till_name
 
 pub returns-in-Ok-clause-ends : goal.returns-in-Ok-clause-ends
-returns-in-Ok-clause-ends g c = ends_pieces g.D.Desk.parts g.T.Till.Closes g.T.Till.origin _ _ _ _ _ _ c.requires.begun c.in-Ok.ensures.ends
+returns-in-Ok-clause-ends g c = ends_pieces g.D.Desk.parts g.T.Till.Closes g.T.Till.origin _ _ _ c.end.new.self _ _ c.requires.begun c.in-Ok.ensures.ends c.new.result
 
 pub returns-in-Ok-clause-asked : goal.returns-in-Ok-clause-asked
 returns-in-Ok-clause-asked g c = asked_at g.D.Desk.parts g.T.Till.Closes g.T.Till.origin _ _ c.end.ensures.ran
@@ -30,7 +30,7 @@ pub returns-in-Err-clause-till_name : goal.returns-in-Err-clause-till_name
 returns-in-Err-clause-till_name g c = (ran g.D.Desk.parts g.T.Till.Closes g.T.Till.origin _ _ c.end.ensures.ran).till_name
 
 pub returns-in-Err-clause-breaks : goal.returns-in-Err-clause-breaks
-returns-in-Err-clause-breaks g c = stops_at_end g.D.Desk.parts g.T.Till.Closes g.T.Till.origin _ _ _ _ _ _ c.requires.begun c.in-Err.ensures.falters
+returns-in-Err-clause-breaks g c = stops_at_end g.D.Desk.parts g.T.Till.Closes g.T.Till.origin _ _ _ c.end.new.self _ _ c.requires.begun c.in-Err.ensures.falters c.new-in-Err.result
 
 pub returns-in-Err-clause-asked : goal.returns-in-Err-clause-asked
 returns-in-Err-clause-asked g c = asked_at g.D.Desk.parts g.T.Till.Closes g.T.Till.origin _ _ c.end.ensures.ran
