@@ -59,6 +59,11 @@ pub amounts_are : (shares : List ShareRow) (id number : ℤ) (amounts : List ℤ
     → amounts ≡ map (λ (k : ℕ). amount_of shares id (k + 1)) (range_with_len 0 n)
 amounts_are shares id number amounts n e all each = fill_by_all (λ (k : ℕ). amount_of shares id (k + 1)) amounts n (pos 0) all (λ k h. each k h ∙ ap (λ (m : ℤ). amount_of shares m (k + 1)) e)
 
+-- where no row is before a place, those from it on are all
+pub from_first : (shares : List ShareRow) (number : ℤ) (amounts : List ℤ) (n place : ℕ) → place ≡ 0 → ((k : ℕ) → k < n → get_or amounts k (pos 0) ≡ amount_of (drop place shares) number (k + 1))
+    → (k : ℕ) → k < n → get_or amounts k (pos 0) ≡ amount_of shares number (k + 1)
+from_first shares number amounts n place first each k below = each k below ∙ ap (λ (m : ℕ). amount_of (drop m shares) number (k + 1)) first
+
 amount_in_range : (row : Option ShareRow) → IfSome row (λ (r : ShareRow). is_money r.amount ≡ true) → IsMoney (amount_or_none row)
 amount_in_range None is = omega arith
 amount_in_range (Some row) is = leb-true _ _ is

@@ -1,12 +1,11 @@
-ghost use Rattle.std.specs.Prelude.{◌≡◌, ◌≤◌, ◌++◌, ◌∷◌, [], pos, map, sum, unsigned_abs, All, find, IfOk, OnOk, IfSome, true};
+ghost use Rattle.std.specs.Prelude.{◌≡◌, ◌≤◌, ◌<◌, ◌+◌, ◌++◌, ◌∷◌, [], ℕ, if◌then◌else◌, pos, map, sum, unsigned_abs, get_or, All, IfOk, OnOk, IfSome, true};
 ghost use Rattle.std.specs.List.{list_all};
-ghost use Rattle.std.specs.Option.{option_map};
 ghost use Rattle.pay_money.specs.declared.limits.TheConstants.{MOST_MONEY, OPERATORS};
 ghost use Rattle.pay_rules.specs.QuoteParts.{IsEditionDay, IsQuote};
 ghost use Rattle.pay_set_rows.specs.Readings.{IsReadAs};
 ghost use Rattle.pay_postings.specs.Amounts.{IsMoney, added};
 ghost use Rattle.pay_postings.specs.Paid.{AreRead};
-ghost use Rattle.pay_postings.specs.PostingRows.{is_money, is_share_row, is_natural, is_share_of, amount_of, amounts_of, naturals, edition_from_row, quote_from_row, quote_after, is_amount_after, posting_after, week_from_row, posting_from_row, postings_from_rows, posting_row, share_rows, share_rows_from, share_row};
+ghost use Rattle.pay_postings.specs.PostingRows.{is_money, is_share_row, is_natural, is_share_of, amounts_of, naturals, edition_from_row, quote_from_row, quote_after, is_amount_after, posting_after, week_from_row, posting_from_row, postings_from_rows, posting_row, share_rows, share_rows_from, share_row};
 ghost use Rattle.pay_postings.specs.NetRows.{with_amount_of, net_from_rows};
 
 use crate::posted::Posted;
@@ -40,42 +39,27 @@ fn are_share_rows(shares: &[ShareRow]) -> bool
     shares.iter().all(|row| is_share_row(row))
 }
 
-/// Whether a row is of a posting and an operator.
-fn is_share_of(id: i64, operator: usize, row: &ShareRow) -> bool
-    requires { operator ≤ OPERATORS }
-    ensures { result ≡ is_share_of id operator row.now }
+/// Puts in what a row says, if it is of a posting.
+fn put_share(amounts: &mut [i64; OPERATORS], id: i64, row: &ShareRow)
+    ensures { (k : ℕ) → k < OPERATORS → get_or amounts.new k (pos 0) ≡ (if is_share_of id (k + 1) row.now then row.now.amount else get_or amounts.old k (pos 0)) }
 {
-    row.posting == id && row.operator == operator as i64
-}
-
-/// The row of a share of a posting.
-fn share_of(shares: &[ShareRow], id: i64, operator: usize) -> Option<&ShareRow>
-    requires { operator ≤ OPERATORS }
-    ensures { option_map (λ r. r.now) result ≡ find (is_share_of id operator) shares.now }
-{
-    shares.iter().find(|row| is_share_of(id, operator, row))
-}
-
-/// What rows say that fell to an operator of a posting: nothing without a row.
-fn amount_of(shares: &[ShareRow], id: i64, operator: usize) -> i64
-    requires { operator ≤ OPERATORS }
-    ensures { result ≡ amount_of shares.now id operator }
-{
-    match share_of(shares, id, operator) {
-        Some(row) => row.amount,
-        None => 0,
+    if row.posting == id {
+        if let Some(operator) = ranged(row.operator, 1, OPERATORS as u64) {
+            amounts[operator as usize - 1] = row.amount;
+        }
     }
 }
 
-/// And to each operator, from operator 1 on.
+/// What rows say that fell to each operator of a posting, from operator 1 on: nothing without a row. The first of several would
+/// count, so they are looked at from the last on.
 fn amounts_of(shares: &[ShareRow], id: i64) -> [i64; OPERATORS]
     requires { list_all is_share_row shares.now ≡ true }
     ensures value { result ≡ amounts_of shares.now id }
     ensures in_range { All IsMoney result }
 {
     let mut amounts = [0; OPERATORS];
-    for place in 0..OPERATORS {
-        amounts[place] = amount_of(shares, id, place + 1);
+    for place in (0..shares.len()).rev() {
+        put_share(&mut amounts, id, &shares[place]);
     }
     amounts
 }
