@@ -1,5 +1,5 @@
 //! The posting that was made last, and the newest of a ledger.
-ghost use Rattle.std.specs.Prelude.{◌≡◌, ◌∷◌, [], Some, None};
+ghost use Rattle.std.specs.Prelude.{◌≡◌, None};
 ghost use Rattle.std.specs.List.{list_any, last_or};
 ghost use Rattle.pay_ledger.specs.Last.{is_number, is_row_of, posting_at, IsNewestOf};
 
