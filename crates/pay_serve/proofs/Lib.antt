@@ -9,6 +9,7 @@ pub mod OneTold
 pub mod Runs
 pub mod ServeCauses
 pub mod Served
+pub mod Stays
 pub mod TakenAgain
 pub mod ToldCloses
 pub mod TriedOver

@@ -7,7 +7,7 @@ use Rattle.pay_mailbox.specs.Words.{SenderParts}
 use Rattle.pay_shard.specs.Words.{command_under}
 use Rattle.pay_shard.specs.declared.asked.Asked.{Asked}
 use Rattle.pay_shard.specs.declared.item.Entry.{Entry}
-use Rattle.pay_session.specs.Words.{IsAskedIn, AreAllAskedIn, AreAskedIn, IsAllowed, AreAskedAt}
+use Rattle.pay_session.specs.Words.{IsAskedIn, AreAskedIn, IsAllowed, AreAskedAt}
 use Rattle.pay_session.specs.declared.port.Role.{Role}
 use Rattle.pay_session.specs.declared.port.Role.TheVariants as role
 use Rattle.pay_lanes.specs.Words.{LaneParts, IsSameLane, IsNewLane}

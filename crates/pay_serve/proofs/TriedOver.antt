@@ -102,6 +102,19 @@ module _ (port : TimeZone × Role) where
   stay begins (l ∷ ls) [] is all = absurd all
   stay begins (l ∷ ls) (k ∷ ks) is all = let first : k ≡ l = all.0.stays is in let rest : ks ≡ ls = stay begins ls ks is all.1 in λ i. first i ∷ rest i
 
+  -- lanes that were tried are told whether they begin
+  told_all : (begins : Bool) (ls : List LaneParts) (ts : List Tried) (told_ones : List Informed) → AllZip (IsTried port) ls ts → AllZip (IsToldOf begins) ts told_ones → AllZip (IsInformed begins port) ls told_ones
+  told_all begins ls ts told_ones tried told = through (IsTried port) (IsToldOf begins) (IsInformed begins port) (λ l t a is tells. tells port l is) ls ts told_ones tried told
+
+  pub told_to_begin : (refused : Option LaneFault) (begins : Bool) (ls : List LaneParts) (ts : List Tried) (told_ones : List Informed) → refused ≡ None → is_some refused ≡ not begins
+      → AllZip (IsTried port) ls ts → AllZip (IsToldOf begins) ts told_ones → AllZip (IsInformed true port) ls told_ones
+  told_to_begin refused true ls ts told_ones none is tried told = told_all true ls ts told_ones tried told
+  told_to_begin refused false ls ts told_ones none is tried told = absurd (cc)
+
+  -- and those that do have gone on
+  pub served_gone : (ls : List LaneParts) (told_ones : List Informed) (ks : List LaneParts) → AllZip (IsInformed true port) ls told_ones → AllZip GivesBack told_ones ks → AllZip (HasGoneOn port) ls ks
+  served_gone ls told_ones ks told back = gone true ls ks (through (IsInformed true port) GivesBack (HasGoneIf true port) (λ l a k is gives. gives true port l is) ls told_ones ks told back)
+
   -- lanes that were tried, and told whether they begin, have gone on
   pub all_gone : (begins : Bool) (ls : List LaneParts) (ts : List Tried) (told_ones : List Informed) (ks : List LaneParts) → AllZip (IsTried port) ls ts → AllZip (IsToldOf begins) ts told_ones → AllZip GivesBack told_ones ks
       → AllZip (HasGoneOn port) ls ks

@@ -9,5 +9,6 @@ pub mod Kept
 pub mod Lanes
 pub mod LeftGates
 pub mod Machines
+pub mod Stays
 pub mod TriedLanes
 pub mod Words

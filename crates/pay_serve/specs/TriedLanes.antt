@@ -1,5 +1,6 @@
 -- Lanes for which threads were asked.
-use Rattle.std.specs.Prelude.{◌≡◌, Bool, List, [], ◌∷◌, Option, Some, None, Result, Ok, Err, IfOk, IfErr}
+use Rattle.std.specs.Prelude.{◌≡◌, ℕ, Bool, true, vec_capacity, List, [], ◌∷◌, Option, Some, None, Result, Ok, Err, IfOk, IfErr}
+use Rattle.std.specs.List.{AllZip}
 use Rattle.jiff.specs.declared.tz.timezone.TimeZone.{TimeZone}
 use Rattle.pay_session.specs.declared.port.Role.{Role}
 use Rattle.pay_lanes.specs.Words.{LaneParts}
@@ -10,6 +11,7 @@ use Rattle.pay_serve.specs.declared.threads.Going.{Going}
 use Rattle.pay_serve.specs.declared.threads.GoesOn.{GoesOn}
 use Rattle.pay_serve.specs.declared.lanes.Tried.{Tried}
 use Rattle.pay_serve.specs.declared.lanes.Informed.{Informed}
+use Rattle.pay_serve.specs.declared.served_lanes.ServedLanes.{ServedLanes}
 
 -- why the thread of a lane was refused, if it was
 abbrev pub refused_of : {A B : Type 0} → Result A (LaneFault × B) → Option LaneFault
@@ -39,6 +41,14 @@ pub record IsTried (port : TimeZone × Role) (lane : LaneParts) (tried : Tried) 
 pub record IsInformed (begins : Bool) (port : TimeZone × Role) (lane : LaneParts) (informed : Informed) : Type 0 where
   pub there : IfOk informed.lane (λ (g : Going). IsPromised port lane g.thread.promise × (g.told.told ≡ begins ∷ []))
   pub here : IfErr informed.lane (λ l. l ≡ lane)
+
+-- lanes are served at a port, each by a thread of its own
+abbrev pub AreServedAt : TimeZone × Role → List LaneParts → ServedLanes → Type 0
+AreServedAt port lanes served = AllZip (IsInformed true port) lanes served.informed.items
+
+-- for how many lanes there is room once they are back
+abbrev pub room_of : ServedLanes → ℕ
+room_of served = vec_capacity served.back
 
 -- what was tried is told whether it begins
 abbrev pub IsToldOf : Bool → Tried → Informed → Type 0

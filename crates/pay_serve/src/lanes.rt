@@ -1,12 +1,16 @@
 //! The lanes, each in a thread of its own.
-ghost use Rattle.std.specs.Prelude.{◌≡◌, ◌≤◌, ◌<◌, [], None, true, All, IfOk, IfSome, length, vec_capacity};
+ghost use Rattle.std.specs.Prelude.{◌≡◌, ◌≤◌, ◌<◌, List, [], None, true, All, IfOk, IfErr, IfSome, length, vec_capacity};
 ghost use Rattle.std.specs.List.{AllZip};
 ghost use Rattle.pay_serve.specs.Begins.{HasServed};
 ghost use Rattle.pay_serve.specs.Lanes.{HasShards, HasGoneOn};
-ghost use Rattle.pay_serve.specs.TriedLanes.{IsTried, IsToldOf, GivesBack, first_of, first_refused, refused_of};
+ghost use Rattle.jiff.specs.declared.tz.timezone.TimeZone.{TimeZone};
+ghost use Rattle.pay_lanes.specs.Words.{LaneParts};
+ghost use Rattle.pay_session.specs.declared.port.Role.{Role};
+ghost use Rattle.pay_serve.specs.TriedLanes.{AreServedAt, room_of, IsTried, IsToldOf, GivesBack, first_of, first_refused, refused_of};
 
 use crate::begins::{Begins, LaneFault};
 use crate::place::Place;
+use crate::served_lanes::ServedLanes;
 use crate::threads::{Begun, GoesOn, Going, Serving};
 use jiff::tz::TimeZone;
 use pay_office::Lane;
@@ -214,6 +218,60 @@ fn room(alloc: Global, lanes: usize, back: usize) -> Result<Lists, AllocError>
     })
 }
 
+/// Begins to serve whoever comes to the places of lanes, each lane's at the place beside it and in a thread of its own. Where one gets no
+/// thread, none begins: they come back as they were, with why the first was refused one.
+pub fn begin_lanes<R, P>(
+    rt: R,
+    alloc: Global,
+    zone: TimeZone<'static>,
+    places: Vec<P>,
+    lanes: Vec<Lane>,
+) -> Result<ServedLanes, (LaneFault, Vec<Lane>)>
+where
+    R: Threads + Wait + Copy + Send + 'static,
+    P: Place + Send + 'static,
+    requires count { length places.items ≡ length lanes.items }
+    requires shards { All HasShards lanes.items }
+    requires room { length lanes.items < vec_capacity lanes }
+    ensures begun { IfOk result (AreServedAt (zone.entry, P.asks) lanes.items) }
+    ensures refused { IfErr result (λ back. back.1.items ≡ lanes.items) }
+    ensures room { IfErr result (λ back. length back.1.items < vec_capacity back.1) }
+    ensures no_less { IfOk result (λ served. vec_capacity lanes ≤ room_of served) }
+    ensures no_less_back { IfErr result (λ back. vec_capacity lanes ≤ vec_capacity back.1) }
+{
+    let Ok(made) = room(alloc, lanes.len(), lanes.capacity()) else {
+        return Err((LaneFault::Memory, lanes));
+    };
+    let Lists {
+        mut tried,
+        mut informed,
+        mut back,
+    } = made;
+    let refused = begin_all(rt, alloc, zone, places, lanes, &mut tried);
+    tell_all(&rt, tried, refused.is_none(), &mut informed);
+    match refused {
+        None => Ok(ServedLanes { informed, back }),
+        Some(fault) => {
+            end_all(&rt, informed, &mut back);
+            Err((fault, back))
+        }
+    }
+}
+
+impl ServedLanes {
+    /// Waits until all have ended. The lanes come back in their order, each the same end of the same queues, and have sent nothing but what
+    /// lines ask for, of whoever may ask there.
+    pub fn end<R: Threads>(self, rt: &R) -> Vec<Lane>
+        ensures served { (port : TimeZone × Role) (lanes : List LaneParts) → AreServedAt port lanes self → AllZip (HasGoneOn port) lanes result.items }
+        ensures room { length result.items < vec_capacity result }
+        ensures no_less { vec_capacity result ≡ room_of self }
+    {
+        let ServedLanes { informed, mut back } = self;
+        end_all(rt, informed, &mut back);
+        back
+    }
+}
+
 /// Serves whoever comes to the places of lanes, each lane's at the place beside it and in a thread of its own, until all have ended. The
 /// lanes come back in their order, each the same end of the same queues, and have sent nothing but what lines ask for, of whoever may ask
 /// there. Where one gets no thread, none begins: they come back as they were, with why the first was refused one.
@@ -235,16 +293,8 @@ where
     ensures room { length result.1.items < vec_capacity result.1 }
 {
     pay_lanes::laws::same_lanes();
-    let Ok(made) = room(alloc, lanes.len(), lanes.capacity()) else {
-        return (Some(LaneFault::Memory), lanes);
-    };
-    let Lists {
-        mut tried,
-        mut informed,
-        mut back,
-    } = made;
-    let refused = begin_all(rt, alloc, zone, places, lanes, &mut tried);
-    tell_all(&rt, tried, refused.is_none(), &mut informed);
-    end_all(&rt, informed, &mut back);
-    (refused, back)
+    match begin_lanes(rt, alloc, zone, places, lanes) {
+        Ok(served) => (None, served.end(&rt)),
+        Err((fault, back)) => (Some(fault), back),
+    }
 }

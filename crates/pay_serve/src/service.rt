@@ -35,7 +35,7 @@ use std::sync::{Arc, Wait};
 use std::thread::Threads;
 
 /// Begins the shards of a plan, each with a keeper, and opens its lanes to them and, before these, the one that is spared.
-fn open_office<F, R, K>(
+pub(crate) fn open_office<F, R, K>(
     rt: R,
     alloc: Global,
     editions: Arc<Editions>,
