@@ -1,0 +1,16 @@
+//! How many connections a lane holds, and how it divides its time among them.
+
+/// How many connections it holds at most. One more is dropped.
+pub const MOST_PEERS: usize = 10_000;
+/// How many are taken at a time.
+pub const MOST_ACCEPTED: u32 = 256;
+/// How many are told at a time to have something to read.
+pub const MOST_EVENTS: usize = 1_024;
+/// How many bytes of one are read at a time.
+pub const PIECE_BYTES: usize = 16_384;
+/// How many such pieces of one are taken before others have their turn.
+pub const TURN_PIECES: u32 = 4;
+/// How often it tries to send what was written on one before others have their turn.
+pub const TURN_SENDS: u32 = 64;
+/// How long it waits at most, in milliseconds, before it looks whether it is told to stop.
+pub const LONGEST_WAIT: u64 = 50;
