@@ -10,4 +10,4 @@ mod peers;
 mod ready;
 mod word;
 
-pub use ready::{Control, Ready};
+pub use ready::{Control, Ports, Ready};

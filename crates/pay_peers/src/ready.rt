@@ -15,6 +15,7 @@ use pay_shard::Desk;
 use pay_till::{NoTill, Till};
 use std::alloc::Global;
 use std::collections::VecDeque;
+use std::io::Eprint;
 use std::net::Net;
 use std::sync::atomic::{AtomicBool, Ordering};
 use std::sync::{Arc, Wait};
@@ -49,11 +50,23 @@ pub struct Ready {
     serving: Serving,
 }
 
+/// Where a service is to be found on this host.
+#[derive(Clone, Copy)]
+pub struct Ports {
+    /// The port of readers and customers.
+    pub everybody: u16,
+    /// The port of staff.
+    pub staff: u16,
+}
+
 /// A port for staff, where days are closed by a till, and the service is stopped.
 #[derive(Drop)]
-pub struct Control<'a, T> {
+pub struct Control<'a, E, T> {
     serving: Serving,
     till: &'a mut T,
+    ports: Ports,
+    // What says where the service is, once it is there.
+    says: E,
 }
 
 /// Has a poll report a connection under the token of its place.
@@ -252,18 +265,32 @@ impl Ready {
     }
 }
 
-impl<'a, T: Till> Control<'a, T> {
+impl<'a, E: Net + Eprint + Copy, T: Till> Control<'a, E, T> {
     /// A port at a listener, with a till. It ends once somebody asks for the service to stop, or it is told to.
-    pub fn new<R: Net>(
-        rt: &R,
+    pub fn new(
+        rt: E,
         alloc: Global,
         listener: net::TcpListener,
+        ports: Ports,
         stop: Arc<AtomicBool>,
         till: &'a mut T,
-    ) -> io::Result<Control<'a, T>> {
-        let serving = Serving::new(rt, alloc, listener, stop)?;
-        Ok(Control { serving, till })
+    ) -> io::Result<Control<'a, E, T>> {
+        let serving = Serving::new(&rt, alloc, listener, stop)?;
+        Ok(Control {
+            serving,
+            till,
+            ports,
+            says: rt,
+        })
     }
+}
+
+/// Says on standard error where a service is.
+fn say<E: Eprint>(rt: &E, ports: Ports) {
+    let Ports { everybody, staff } = ports;
+    let _ = eprintln!(rt;
+        "farebox: listening on 127.0.0.1:{everybody}, for staff on 127.0.0.1:{staff}"
+    );
 }
 
 impl Place for Ready {
@@ -289,7 +316,7 @@ impl Place for Ready {
     }
 }
 
-impl<'a, T: Till> Place for Control<'a, T> {
+impl<'a, E: Eprint + Drop, T: Till> Place for Control<'a, E, T> {
     ghost use Rattle.pay_session.specs.declared.port.Role.TheVariants.{All};
 
     ghost asks = { All };
@@ -300,7 +327,13 @@ impl<'a, T: Till> Place for Control<'a, T> {
 
     fn serve<R: Wait + Copy>(self, rt: R, alloc: Global, zone: &TimeZone<'_>, lane: Lane) -> Lane {
         pay_serve::laws::lanes_ask();
-        let Control { mut serving, till } = self;
+        let Control {
+            mut serving,
+            till,
+            ports,
+            says,
+        } = self;
+        say(&says, ports);
         let mut desk = LaneDesk::new(rt, alloc, lane);
         serving.serve_all(&rt, Port::open(zone), &mut desk, till);
         desk.into_lane()
