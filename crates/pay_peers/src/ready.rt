@@ -61,9 +61,9 @@ pub struct Ports {
 
 /// A port for staff, where days are closed by a till, and the service is stopped.
 #[derive(Drop)]
-pub struct Control<'a, E, T> {
+pub struct Control<E, T> {
     serving: Serving,
-    till: &'a mut T,
+    till: T,
     ports: Ports,
     // What says where the service is, once it is there.
     says: E,
@@ -265,7 +265,7 @@ impl Ready {
     }
 }
 
-impl<'a, E: Net + Eprint + Copy, T: Till> Control<'a, E, T> {
+impl<E: Net + Eprint + Copy, T: Till> Control<E, T> {
     /// A port at a listener, with a till. It ends once somebody asks for the service to stop, or it is told to.
     pub fn new(
         rt: E,
@@ -273,8 +273,8 @@ impl<'a, E: Net + Eprint + Copy, T: Till> Control<'a, E, T> {
         listener: net::TcpListener,
         ports: Ports,
         stop: Arc<AtomicBool>,
-        till: &'a mut T,
-    ) -> io::Result<Control<'a, E, T>> {
+        till: T,
+    ) -> io::Result<Control<E, T>> {
         let serving = Serving::new(&rt, alloc, listener, stop)?;
         Ok(Control {
             serving,
@@ -316,7 +316,7 @@ impl Place for Ready {
     }
 }
 
-impl<'a, E: Eprint + Drop, T: Till> Place for Control<'a, E, T> {
+impl<E: Eprint + Drop, T: Till> Place for Control<E, T> {
     ghost use Rattle.pay_session.specs.declared.port.Role.TheVariants.{All};
 
     ghost asks = { All };
@@ -329,13 +329,13 @@ impl<'a, E: Eprint + Drop, T: Till> Place for Control<'a, E, T> {
         pay_serve::laws::lanes_ask();
         let Control {
             mut serving,
-            till,
+            mut till,
             ports,
             says,
         } = self;
         say(&says, ports);
         let mut desk = LaneDesk::new(rt, alloc, lane);
-        serving.serve_all(&rt, Port::open(zone), &mut desk, till);
+        serving.serve_all(&rt, Port::open(zone), &mut desk, &mut till);
         desk.into_lane()
     }
 }
