@@ -2,7 +2,7 @@
 ghost use Rattle.std.specs.Prelude.{◌≡◌};
 ghost use Rattle.pay_session.specs.Words.{AreAskedAt};
 
-use crate::limits::{TURN_PIECES, TURN_SENDS};
+use crate::limits::{LAST_READS, MOST_UNSENT, TURN_PIECES, TURN_SENDS};
 use crate::word::Word;
 use mio::net::TcpStream;
 use pay_session::{Conversation, Port, Role, cut};
@@ -37,11 +37,17 @@ pub struct Peer {
     known: bool,
     // What was read of a line that may be the word that stops the service.
     word: Word,
+    // What was read and not taken yet, since so much is to be sent.
+    pending: Vec<u8>,
+    // Whether it has a further turn already.
+    pub queued: bool,
     // Whether it asked for the service to stop.
     stops: bool,
     // Whether no more lines are taken, and whether the peer knows.
     over: bool,
     told: bool,
+    // How many reads of what it still sends are left.
+    last_reads: u32,
 }
 
 /// Whether a reply says that its line is no command: 50 `BadLine` or 51 `LongLine`.
@@ -59,9 +65,12 @@ impl Peer {
             sent: 0,
             known: false,
             word: Word::new(),
+            pending: Vec::new(alloc),
+            queued: false,
             stops: false,
             over: false,
             told: false,
+            last_reads: LAST_READS,
         }
     }
 
@@ -123,6 +132,54 @@ impl Peer {
         Ok(())
     }
 
+    /// Takes a line of a piece, and says what comes after it; or all of the piece, where no line ends in it.
+    fn take_line<'v, D: Desk, T: Till>(
+        &mut self,
+        piece: &'v [u8],
+        port: Port<'_>,
+        desk: &mut D,
+        till: &mut T,
+    ) -> Result<&'v [u8], WriteFault>
+        ensures same_desk { (D.parts desk.new).standing ≡ (D.parts desk.old).standing }
+        ensures asked { AreAskedAt port.entry.zone.now port.entry.role (D.parts desk.old).taken (D.parts desk.new).taken }
+    {
+        let Some((_, rest)) = cut(piece) else {
+            self.take(piece, port, desk, till)?;
+            return Ok(&piece[piece.len()..]);
+        };
+        let (line, rest) = piece.split_at(piece.len() - rest.len());
+        self.take(line, port, desk, till)?;
+        Ok(rest)
+    }
+
+    /// Takes the lines of a piece one after another, until a peer that does not read has to read first. What is left is pending.
+    fn take_lines<D: Desk, T: Till>(
+        &mut self,
+        piece: &[u8],
+        port: Port<'_>,
+        desk: &mut D,
+        till: &mut T,
+    ) -> Result<(), WriteFault>
+        ensures same_desk { (D.parts desk.new).standing ≡ (D.parts desk.old).standing }
+        ensures asked { AreAskedAt port.entry.zone.now port.entry.role (D.parts desk.old).taken (D.parts desk.new).taken }
+    {
+        pay_session::laws::piece_by_piece();
+        let mut rest = piece;
+        for _ in 0..piece.len() {
+            if rest.is_empty() || self.over {
+                return Ok(());
+            }
+            if self.unsent.len() > MOST_UNSENT {
+                self.pending
+                    .extend_from_slice(rest)
+                    .map_err(|_| WriteFault::Failed(ErrorKind::OutOfMemory))?;
+                return Ok(());
+            }
+            rest = self.take_line(rest, port, desk, till)?;
+        }
+        Ok(())
+    }
+
     /// The same of a piece in which the first line may end: where that is no command, no more is taken, since the peer speaks another
     /// protocol.
     fn take_first<D: Desk, T: Till>(
@@ -146,7 +203,7 @@ impl Peer {
         if self.over {
             return Ok(());
         }
-        self.take(rest, port, desk, till)
+        self.take_lines(rest, port, desk, till)
     }
 
     /// Answers what no newline ended, once the peer sends no more.
@@ -203,7 +260,7 @@ impl Peer {
         ensures asked { AreAskedAt port.entry.zone.now port.entry.role (D.parts desk.old).taken (D.parts desk.new).taken }
     {
         if self.known {
-            self.take(piece, port, desk, till)
+            self.take_lines(piece, port, desk, till)
         } else {
             self.take_first(piece, port, desk, till)
         }
@@ -255,6 +312,30 @@ impl Peer {
         }
     }
 
+    /// Takes what is pending, which came from a buffer of this size.
+    fn take_pending<D: Desk, T: Till>(
+        &mut self,
+        buffer: &mut [u8],
+        port: Port<'_>,
+        desk: &mut D,
+        till: &mut T,
+    ) -> Fate
+        ensures same_desk { (D.parts desk.new).standing ≡ (D.parts desk.old).standing }
+        ensures asked { AreAskedAt port.entry.zone.now port.entry.role (D.parts desk.old).taken (D.parts desk.new).taken }
+    {
+        pay_session::laws::piece_by_piece();
+        let count = self.pending.len();
+        let Some(room) = buffer.get_mut(..count) else {
+            return Fate::Ends;
+        };
+        room.copy_from_slice(&self.pending);
+        self.pending.clear();
+        match self.take_lines(room, port, desk, till) {
+            Ok(()) => Fate::GoesOn,
+            Err(_) => Fate::Ends,
+        }
+    }
+
     /// Says that no more comes, and takes what the peer still sends: bytes that nobody has taken when a stream is dropped make the system
     /// break the connection, and the peer may lose replies by it.
     fn part(&mut self, buffer: &mut [u8]) -> Fate {
@@ -264,6 +345,10 @@ impl Peer {
                 return Fate::Ends;
             }
         }
+        if self.last_reads == 0 {
+            return Fate::Ends;
+        }
+        self.last_reads -= 1;
         match (&self.stream).read(buffer) {
             Ok(0) => Fate::Ends,
             Ok(_) => Fate::GoesOn,
@@ -296,6 +381,9 @@ impl Peer {
         if self.over {
             return self.part(buffer);
         }
+        if !self.pending.is_empty() {
+            return self.take_pending(buffer, port, desk, till);
+        }
         self.read(buffer, port, desk, till)
     }
 
@@ -316,6 +404,9 @@ impl Peer {
                 Fate::GoesOn => {}
                 fate => return fate,
             }
+        }
+        if self.stops {
+            let _ = self.send();
         }
         Fate::GoesOn
     }

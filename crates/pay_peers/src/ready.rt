@@ -142,12 +142,31 @@ impl Held {
         match self.turn(place, port, desk, till) {
             Fate::Waits => {}
             Fate::Ends => self.peers.let_go(place),
-            Fate::GoesOn => {
-                if self.again.push_back(place).is_err() {
-                    self.peers.let_go(place);
-                }
-            }
+            Fate::GoesOn => self.queue(place),
         }
+    }
+
+    /// The connection at a place has one more turn soon, and no more than one.
+    fn queue(&mut self, place: usize) {
+        let Some(peer) = self.peers.at(place) else {
+            return;
+        };
+        if peer.queued {
+            return;
+        }
+        peer.queued = true;
+        if self.again.push_back(place).is_err() {
+            self.peers.let_go(place);
+        }
+    }
+
+    /// The next place of which the connection has a further turn.
+    fn next(&mut self) -> Option<usize> {
+        let place = self.again.pop_front()?;
+        if let Some(peer) = self.peers.at(place) {
+            peer.queued = false;
+        }
+        Some(place)
     }
 
     /// Those that may go on at once have their turns.
@@ -157,7 +176,7 @@ impl Held {
     {
         pay_session::laws::piece_by_piece();
         for _ in 0..self.again.len() {
-            if let Some(place) = self.again.pop_front() {
+            if let Some(place) = self.next() {
                 self.serve(place, port, desk, till);
             }
         }
@@ -203,17 +222,9 @@ impl Serving {
         ensures asked { AreAskedAt port.entry.zone.now port.entry.role (D.parts desk.old).taken (D.parts desk.new).taken }
     {
         pay_session::laws::piece_by_piece();
-        let Serving {
-            alloc,
-            listener,
-            poll,
-            events,
-            held,
-        } = self;
-        for event in events.iter() {
-            match event.token().0.checked_sub(1) {
-                Some(place) => held.serve(place, port, desk, till),
-                None => accept(*alloc, poll, listener, &mut held.peers),
+        for event in self.events.iter() {
+            if let Some(place) = event.token().0.checked_sub(1) {
+                self.held.serve(place, port, desk, till);
             }
         }
     }
@@ -227,6 +238,8 @@ impl Serving {
         if self.wait().is_err() {
             return;
         }
+        // Each time, since one that was not taken is not told of again.
+        accept(self.alloc, &self.poll, &self.listener, &mut self.held.peers);
         self.held.serve_again(port, desk, till);
         self.serve_ready(port, desk, till);
     }
