@@ -1,10 +1,10 @@
 -- A service that stays for as long as one lane does.
-use Rattle.std.specs.Prelude.{◌≡◌, Bool, List, [], ◌∷◌, ◌++◌, All, length, map, Result, Ok, Err}
+use Rattle.std.specs.Prelude.{◌≡◌, Bool, true, false, List, [], ◌∷◌, ◌++◌, All, length, map, Result, Ok, Err}
 use Rattle.std.specs.List.{AllZip}
 use Rattle.pay_lanes.specs.Words.{LaneParts, WorkerParts, Passed, IsNewLane}
 use Rattle.pay_session.specs.declared.port.Role.{Role}
 use Rattle.pay_serve.specs.Closes.{Terms, IsRefusedAgain}
-use Rattle.pay_serve.specs.Journals.{AreTakenThrough}
+use Rattle.pay_serve.specs.Journals.{AreTakenThrough, is_one_stuck}
 use Rattle.pay_serve.specs.Kept.{HasKept, HasKeptNone}
 use Rattle.pay_serve.specs.KeepingGates.{GateParts}
 use Rattle.pay_serve.specs.Lanes.{AreAllWith, HasAskedAt}
@@ -35,8 +35,8 @@ pub record HasStayed (Holds : GateParts → List Passed → Bool → Type 0) (wh
 
 -- The service stayed, and ended; or why it did not begin, and then nobody was served.
 abbrev pub IsStayed : (GateParts → List Passed → Bool → Type 0) → Role × Role → Terms → List GateParts → Result (Unit {0}) ServeFault → Type 0
-IsStayed Holds who terms gates (Ok ended) = HasStayed Holds who terms gates
-IsStayed Holds who terms gates (Err Journal) = HasStayed Holds who terms gates
+IsStayed Holds who terms gates (Ok ended) = HasStayed Holds who terms gates × (is_one_stuck gates ≡ false)
+IsStayed Holds who terms gates (Err Journal) = HasStayed Holds who terms gates × (is_one_stuck gates ≡ true)
 IsStayed Holds who terms gates (Err (JournalLine journal line why)) = IsRefusedAgain terms journal line why × AreAllGates terms.held gates × All HasKeptNone gates
 IsStayed Holds who terms gates (Err Count) = AreUnserved terms.held gates
 IsStayed Holds who terms gates (Err NoThread) = AreUnserved terms.held gates

@@ -1,10 +1,10 @@
 -- How a service that stays ends, by its fare file, its zone and its journals, and by the ledger that is opened for it.
-use Rattle.std.specs.Prelude.{◌≡◌, ◌⊎◌, List, Err, codes}
+use Rattle.std.specs.Prelude.{◌≡◌, ◌⊎◌, List, Ok, Err, codes}
 use Rattle.sqlite.specs.Held.{Held}
 use Rattle.sqlite.specs.Store.{Ghosts}
 use Rattle.pay_journal.specs.declared.keeper.Keeper.{Ghosts as Keeping}
 use Rattle.pay_session.specs.declared.port.Role.TheVariants.{Taps, All}
-use Rattle.pay_serve.specs.Words.{GateParts, HoldsPassed, Terms, HasStayed, IsStayed}
+use Rattle.pay_serve.specs.Words.{GateParts, HoldsPassed, Terms, IsStayed}
 use Rattle.pay_serve.specs.declared.fault.ServeFault.{ServeFault}
 use Rattle.pay_jobs.specs.Words.{IsRefusal, IsWantOfMemory}
 use Rattle.pay_jobs.specs.declared.fault.Fault.{Fault}
@@ -18,7 +18,7 @@ IsNoPort fault = (fault ≡ CannotListen) ⊎ IsRefusal fault 32 (codes "Count")
 module _ {K : Type 0} (keeper : Keeping K) (terms : Terms) where
   -- The service stayed by these terms, and ended: readers and customers asked for no correction and no close.
   abbrev pub HasStayedBy : Type 0
-  HasStayedBy = (gates : List GateParts) × HasStayed (HoldsPassed keeper.holds keeper.HasFailed keeper.IsSettled) (Taps, All) terms gates
+  HasStayedBy = (gates : List GateParts) × IsStayed (HoldsPassed keeper.holds keeper.HasFailed keeper.IsSettled) (Taps, All) terms gates (Ok tt)
 
   -- Or it has no port, or ended so.
   abbrev pub EndsNot : Fault → Type 0

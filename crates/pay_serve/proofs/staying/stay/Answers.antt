@@ -6,7 +6,7 @@ use Rattle.pay_session.specs.declared.port.Role.{Role}
 use Rattle.pay_lanes.specs.Words.{IsNewLane, IsSameLane}
 use Rattle.pay_serve.specs.KeepingGates.{HoldsPassed}
 use Rattle.pay_serve.specs.Closes.{terms_of}
-use Rattle.pay_serve.specs.Journals.{AreTakenThrough}
+use Rattle.pay_serve.specs.Journals.{AreTakenThrough, is_one_stuck}
 use Rattle.pay_serve.specs.Lanes.{HasShards, HasGoneOn, AreAllWith}
 use Rattle.pay_serve.specs.Machines.{IsOverWith}
 use Rattle.pay_serve.proofs.Going.{all_back, lanes_same}
@@ -111,28 +111,30 @@ returns-then-is_one_stuck g c =
     let port : TimeZone × Role = (c.args.given.zone, g.P.Place.asks) in
     let gone = c.end-back.ensures.served port c.pop.new.self.items c.in-Ok-begin_lanes.ensures.begun in
     let items = c.push_reserved-in-Ok-begin_lanes.ensures.items in
-    let over = subst (λ ks. IsOverWith (HoldsPassed K.holds K.HasFailed K.IsSettled) c.in_ok-office.office (ks ++ c.take_through-taken.result.1 ∷ []) c.end-in-Ok-begin_lanes.result.items) items c.end-in-Ok-begin_lanes.ensures.over in
-    record {
-      office = c.in_ok-office.office;
-      new = opened.new;
-      first = c.in_ok-office.first;
-      spared = opened.spared;
-      last = c.take_through-taken.result.1;
-      past = subst (AreTakenThrough c.args.given.zone (map vec_items c.args.given.texts.now) c.in_ok-office.first c.take_through-taken.result.1) c.in-Ok.is c.take_through-taken.ensures.taken;
-      others = c.end-back.result.items;
-      control = c.serve-lane.result;
-      asked = all_asked port (length c.in_ok-office.office) c.pop.new.self.items c.end-back.result.items
-          (others_are (IsNewLane (length c.in_ok-office.office)) c.in_ok-office.lanes.items c.pop.new.self.items c.in-Some.lane c.in-Some.ensures.items opened.others) gone;
-      controlled = one_asked (c.args.given.zone, g.C.Place.asks) (length c.in_ok-office.office) c.in-Some.lane c.serve-lane.result
-          (last_is (IsNewLane (length c.in_ok-office.office)) c.in_ok-office.lanes.items c.pop.new.self.items c.in-Some.lane c.in-Some.ensures.items opened.others)
-          c.serve-lane.ensures.same c.serve-lane.ensures.asked;
-      all = all_back c.still_together.ensures.in_order c.same_workers.ensures.itself c.in_ok-office.office c.in_ok-office.lanes.items (c.end-back.result.items ++ c.serve-lane.result ∷ []) c.in_ok-office.first c.take_through-taken.result.1
-          (all_gone_on c.in_ok-office.lanes.items c.pop.new.self.items c.end-back.result.items c.in-Some.lane c.serve-lane.result c.in-Some.ensures.items (all_same port _ _ gone) c.serve-lane.ensures.same)
-          c.take_through-taken.ensures.same opened.all;
-      began = c.end-in-Ok-begin_lanes.ensures.began ∙ opened.began;
-      over = over;
-      kept = all_kept K.holds K.HasFailed K.IsSettled c.passed_are_kept.ensures _ over.1.workers c.end-in-Ok-begin_lanes.result.items over.1.passed;
-    }
+    let over = subst (λ ks. IsOverWith (HoldsPassed K.holds K.HasFailed K.IsSettled) c.in_ok-office.office (ks ++ c.take_through-taken.result.1 ∷ []) c.end-in-Ok-begin_lanes.result.items) items c.end-in-Ok-begin_lanes.ensures.over in (
+      record {
+        office = c.in_ok-office.office;
+        new = opened.new;
+        first = c.in_ok-office.first;
+        spared = opened.spared;
+        last = c.take_through-taken.result.1;
+        past = subst (AreTakenThrough c.args.given.zone (map vec_items c.args.given.texts.now) c.in_ok-office.first c.take_through-taken.result.1) c.in-Ok.is c.take_through-taken.ensures.taken;
+        others = c.end-back.result.items;
+        control = c.serve-lane.result;
+        asked = all_asked port (length c.in_ok-office.office) c.pop.new.self.items c.end-back.result.items
+            (others_are (IsNewLane (length c.in_ok-office.office)) c.in_ok-office.lanes.items c.pop.new.self.items c.in-Some.lane c.in-Some.ensures.items opened.others) gone;
+        controlled = one_asked (c.args.given.zone, g.C.Place.asks) (length c.in_ok-office.office) c.in-Some.lane c.serve-lane.result
+            (last_is (IsNewLane (length c.in_ok-office.office)) c.in_ok-office.lanes.items c.pop.new.self.items c.in-Some.lane c.in-Some.ensures.items opened.others)
+            c.serve-lane.ensures.same c.serve-lane.ensures.asked;
+        all = all_back c.still_together.ensures.in_order c.same_workers.ensures.itself c.in_ok-office.office c.in_ok-office.lanes.items (c.end-back.result.items ++ c.serve-lane.result ∷ []) c.in_ok-office.first c.take_through-taken.result.1
+            (all_gone_on c.in_ok-office.lanes.items c.pop.new.self.items c.end-back.result.items c.in-Some.lane c.serve-lane.result c.in-Some.ensures.items (all_same port _ _ gone) c.serve-lane.ensures.same)
+            c.take_through-taken.ensures.same opened.all;
+        began = c.end-in-Ok-begin_lanes.ensures.began ∙ opened.began;
+        over = over;
+        kept = all_kept K.holds K.HasFailed K.IsSettled c.passed_are_kept.ensures _ over.1.workers c.end-in-Ok-begin_lanes.result.items over.1.passed;
+      },
+      ap is_one_stuck (sym c.deref.ensures.value) ∙ (sym c.is_one_stuck.ensures.value ∙ c.if-is_one_stuck.true),
+    )
 
 pub returns-else-is_one_stuck : goal.returns-else-is_one_stuck
 returns-else-is_one_stuck g c =
@@ -141,25 +143,27 @@ returns-else-is_one_stuck g c =
     let port : TimeZone × Role = (c.args.given.zone, g.P.Place.asks) in
     let gone = c.end-back.ensures.served port c.pop.new.self.items c.in-Ok-begin_lanes.ensures.begun in
     let items = c.push_reserved-in-Ok-begin_lanes.ensures.items in
-    let over = subst (λ ks. IsOverWith (HoldsPassed K.holds K.HasFailed K.IsSettled) c.in_ok-office.office (ks ++ c.take_through-taken.result.1 ∷ []) c.end-in-Ok-begin_lanes.result.items) items c.end-in-Ok-begin_lanes.ensures.over in
-    record {
-      office = c.in_ok-office.office;
-      new = opened.new;
-      first = c.in_ok-office.first;
-      spared = opened.spared;
-      last = c.take_through-taken.result.1;
-      past = subst (AreTakenThrough c.args.given.zone (map vec_items c.args.given.texts.now) c.in_ok-office.first c.take_through-taken.result.1) c.in-Ok.is c.take_through-taken.ensures.taken;
-      others = c.end-back.result.items;
-      control = c.serve-lane.result;
-      asked = all_asked port (length c.in_ok-office.office) c.pop.new.self.items c.end-back.result.items
-          (others_are (IsNewLane (length c.in_ok-office.office)) c.in_ok-office.lanes.items c.pop.new.self.items c.in-Some.lane c.in-Some.ensures.items opened.others) gone;
-      controlled = one_asked (c.args.given.zone, g.C.Place.asks) (length c.in_ok-office.office) c.in-Some.lane c.serve-lane.result
-          (last_is (IsNewLane (length c.in_ok-office.office)) c.in_ok-office.lanes.items c.pop.new.self.items c.in-Some.lane c.in-Some.ensures.items opened.others)
-          c.serve-lane.ensures.same c.serve-lane.ensures.asked;
-      all = all_back c.still_together.ensures.in_order c.same_workers.ensures.itself c.in_ok-office.office c.in_ok-office.lanes.items (c.end-back.result.items ++ c.serve-lane.result ∷ []) c.in_ok-office.first c.take_through-taken.result.1
-          (all_gone_on c.in_ok-office.lanes.items c.pop.new.self.items c.end-back.result.items c.in-Some.lane c.serve-lane.result c.in-Some.ensures.items (all_same port _ _ gone) c.serve-lane.ensures.same)
-          c.take_through-taken.ensures.same opened.all;
-      began = c.end-in-Ok-begin_lanes.ensures.began ∙ opened.began;
-      over = over;
-      kept = all_kept K.holds K.HasFailed K.IsSettled c.passed_are_kept.ensures _ over.1.workers c.end-in-Ok-begin_lanes.result.items over.1.passed;
-    }
+    let over = subst (λ ks. IsOverWith (HoldsPassed K.holds K.HasFailed K.IsSettled) c.in_ok-office.office (ks ++ c.take_through-taken.result.1 ∷ []) c.end-in-Ok-begin_lanes.result.items) items c.end-in-Ok-begin_lanes.ensures.over in (
+      record {
+        office = c.in_ok-office.office;
+        new = opened.new;
+        first = c.in_ok-office.first;
+        spared = opened.spared;
+        last = c.take_through-taken.result.1;
+        past = subst (AreTakenThrough c.args.given.zone (map vec_items c.args.given.texts.now) c.in_ok-office.first c.take_through-taken.result.1) c.in-Ok.is c.take_through-taken.ensures.taken;
+        others = c.end-back.result.items;
+        control = c.serve-lane.result;
+        asked = all_asked port (length c.in_ok-office.office) c.pop.new.self.items c.end-back.result.items
+            (others_are (IsNewLane (length c.in_ok-office.office)) c.in_ok-office.lanes.items c.pop.new.self.items c.in-Some.lane c.in-Some.ensures.items opened.others) gone;
+        controlled = one_asked (c.args.given.zone, g.C.Place.asks) (length c.in_ok-office.office) c.in-Some.lane c.serve-lane.result
+            (last_is (IsNewLane (length c.in_ok-office.office)) c.in_ok-office.lanes.items c.pop.new.self.items c.in-Some.lane c.in-Some.ensures.items opened.others)
+            c.serve-lane.ensures.same c.serve-lane.ensures.asked;
+        all = all_back c.still_together.ensures.in_order c.same_workers.ensures.itself c.in_ok-office.office c.in_ok-office.lanes.items (c.end-back.result.items ++ c.serve-lane.result ∷ []) c.in_ok-office.first c.take_through-taken.result.1
+            (all_gone_on c.in_ok-office.lanes.items c.pop.new.self.items c.end-back.result.items c.in-Some.lane c.serve-lane.result c.in-Some.ensures.items (all_same port _ _ gone) c.serve-lane.ensures.same)
+            c.take_through-taken.ensures.same opened.all;
+        began = c.end-in-Ok-begin_lanes.ensures.began ∙ opened.began;
+        over = over;
+        kept = all_kept K.holds K.HasFailed K.IsSettled c.passed_are_kept.ensures _ over.1.workers c.end-in-Ok-begin_lanes.result.items over.1.passed;
+      },
+      ap is_one_stuck (sym c.deref.ensures.value) ∙ (sym c.is_one_stuck.ensures.value ∙ c.if-is_one_stuck.false),
+    )
