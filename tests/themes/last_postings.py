@@ -34,15 +34,19 @@ NOT_OVER = "it is not over (see --early)"
 
 
 class LastPostings(Theme):
-    def test_what_is_noted(self):
-        """The last posting that a close has made, as five numbers; an older ledger than it is refused, and nothing is
-        changed."""
-        noted = os.path.join(self.folder, "journal.posted")
+    def first_close(self):
+        """One boarding on Monday, and Monday's close: the ledger's first posting."""
         self.check(
             "a first close",
             session_over(self.folder, [BUS, "CLOSE 19730"]),
             answers(b"OK 19730 175 175\n" + PAID + DONE),
         )
+
+    def test_what_is_noted(self):
+        """The last posting that a close has made, as five numbers; an older ledger than it is refused, and nothing is
+        changed."""
+        noted = os.path.join(self.folder, "journal.posted")
+        self.first_close()
         self.check("what is noted", answers(bytes_of(noted)), answers(b"7 19730 19730 1 1\n"))
         self.check("who may read it", answers(oct(stat.S_IMODE(os.stat(noted).st_mode)).encode()), answers(b"0o600"))
         monday = copied_ledger(self.folder, "monday")
@@ -191,11 +195,7 @@ class LastPostings(Theme):
     def test_old_notes(self):
         """A note of four numbers, as an earlier version wrote it, is taken, and is one of five after the start."""
         noted = os.path.join(self.folder, "journal.posted")
-        self.check(
-            "a first close",
-            session_over(self.folder, [BUS, "CLOSE 19730"]),
-            answers(b"OK 19730 175 175\n" + PAID + DONE),
-        )
+        self.first_close()
         written(self.folder, "journal.posted", b"7 19730 19730 1\n")
         self.check("a start", session_over(self.folder, []), answers(b""))
         self.check("what is noted", answers(bytes_of(noted)), answers(b"7 19730 19730 1 1\n"))
@@ -203,11 +203,7 @@ class LastPostings(Theme):
     def test_what_is_no_note(self):
         """A text that notes no posting bars a start with a ledger, and all stays as it is."""
         noted = os.path.join(self.folder, "journal.posted")
-        self.check(
-            "a first close",
-            session_over(self.folder, [BUS, "CLOSE 19730"]),
-            answers(b"OK 19730 175 175\n" + PAID + DONE),
-        )
+        self.first_close()
         for name, text in (
             ("nothing", b""), ("no newline", b"7 19730 19730 1"), ("two newlines", b"7 19730 19730 1\n\n"),
             ("a zero before", b"7 19730 19730 01\n"),
@@ -274,11 +270,7 @@ class LastPostings(Theme):
                 fault("43 Store"),
             )
             self.check(f"{name} is not made", answers(bytes_of(os.path.join(self.folder, name))), answers(None))
-        self.check(
-            "a first close",
-            session_over(self.folder, [BUS, "CLOSE 19730"]),
-            answers(b"OK 19730 175 175\n" + PAID + DONE),
-        )
+        self.first_close()
         os.symlink(self.folder, os.path.join(self.folder, "again"))
         kept = {name: bytes_of(os.path.join(self.folder, name)) for name in ("journal", *names)}
         for name in names:
