@@ -12,13 +12,13 @@ use Rattle.pay_words.specs.Asked.{Given, with_value, values, help, refused, with
 use Rattle.pay_words.specs.Asked as words
 use Rattle.pay_words.specs.Options as say
 use Rattle.pay_words.specs.Options.{AreParts, IsOption, Part, Said, Setting, StandApart, all_of, all_said, flag_value, help_wanted, is_flag, not_taken, plain_words, reader_of, values_of, words_of_parts}
-use Rattle.pay_words.specs.Options.{port_option, lanes_option, shards_option, sessions_option, close_option, journal_option, sync_option, ledger_option, early_option}
+use Rattle.pay_words.specs.Options.{port_option, lanes_option, shards_option, sessions_option, close_option, control_option, journal_option, sync_option, ledger_option, early_option}
 use Rattle.pay_words.specs.Options.{lint_option, against_option, after_option}
 use Rattle.pay_words.specs.Audit.{AreAuditParts, Audit, audit_grammar}
 use Rattle.pay_words.specs.Check.{AreCheckParts, CheckTexts, HasAfterInRange, check_grammar, check_of_texts, has_against}
 use Rattle.pay_words.specs.Rebuild.{rebuild_grammar}
 use Rattle.pay_words.specs.Run.{AreRunParts, Run, first_given, flags, has_journal, is_given, listed, run_grammar}
-use Rattle.pay_words.specs.Serve.{AreInRange, ArePartsOf, ServeTexts, has_ports, numbers_of, serve_grammar}
+use Rattle.pay_words.specs.Serve.{AreInRange, ArePartsOf, ServeTexts, is_whole, numbers_of, serve_grammar}
 use Rattle.pay_words.specs.Statement.{AreStatementParts, HasNumbersInRange, StatementTexts, statement_grammar, statement_of_texts}
 use Rattle.pay_words.proofs.OptionRules.{flag_given}
 use Rattle.pay_words.proofs.OptionsTaken.{AreTaken, Fits, Once, no_values, not_both, parts_taken}
@@ -33,7 +33,7 @@ use Rattle.pay_words.proofs.WordsAfterOptions.{Comes, Places, Under, ends}
 use Rattle.pay_words.proofs.WordsAfterRebuild.{rebuild_apart, rebuild_built, rebuild_rules}
 use Rattle.pay_words.proofs.WordsAfterReplay.{replay_long, replay_rules, replay_short}
 use Rattle.pay_words.proofs.WordsAfterRun.{run_apart, run_built, run_rules, run_shape}
-use Rattle.pay_words.proofs.WordsAfterServe.{serve_apart, serve_built, serve_rules, serve_shape}
+use Rattle.pay_words.proofs.WordsAfterServe.{serve_apart, serve_built, serve_rules, serve_shape, under_reads}
 use Rattle.pay_words.proofs.WordsAfterStatement.{statement_apart, statement_built, statement_rules, statement_shape}
 
 -- ---- words that are values alone
@@ -206,31 +206,34 @@ module _ (rest : List Text) (parts : List Part) (had : List Row) (s : Says serve
   serve_fits : (k : Setting) (v : Text) → values_of k parts ≡ v ∷ [] → reader_of k v ≡ true
   serve_fits k v is = under_fits had k (values_of k parts) v is (under k)
 
-  serve_made : (vs ps ls ns ks ds : List Text) → plain_words parts ≡ vs → values_of port_option parts ≡ ps → values_of lanes_option parts ≡ ls
-      → values_of shards_option parts ≡ ns → values_of sessions_option parts ≡ ks → values_of close_option parts ≡ ds
-      → AreWordsOf (serve_of vs ps ls ns ks ds (values_of journal_option parts) (values_of ledger_option parts) (values_of early_option parts)) (codes "serve" ∷ rest)
-  serve_made [] ps ls ns ks ds h p l n k d = tt
-  serve_made (a ∷ []) ps ls ns ks ds h p l n k d = tt
-  serve_made (a ∷ b ∷ c ∷ more) ps ls ns ks ds h p l n k d = tt
-  serve_made (a ∷ b ∷ []) [] ls ns ks ds h p l n k d = tt
-  serve_made (a ∷ b ∷ []) (pw ∷ v ∷ more) ls ns ks ds h p l n k d = tt
-  serve_made (a ∷ b ∷ []) (pw ∷ []) [] ns ks ds h p l n k d = tt
-  serve_made (a ∷ b ∷ []) (pw ∷ []) (lw ∷ v ∷ more) ns ks ds h p l n k d = tt
-  serve_made (a ∷ b ∷ []) (pw ∷ []) (lw ∷ []) [] ks ds h p l n k d = tt
-  serve_made (a ∷ b ∷ []) (pw ∷ []) (lw ∷ []) (nw ∷ v ∷ more) ks ds h p l n k d = tt
-  serve_made (a ∷ b ∷ []) (pw ∷ []) (lw ∷ []) (nw ∷ []) [] ds h p l n k d = tt
-  serve_made (a ∷ b ∷ []) (pw ∷ []) (lw ∷ []) (nw ∷ []) (kw ∷ v ∷ more) ds h p l n k d = tt
-  serve_made (a ∷ b ∷ []) (pw ∷ []) (lw ∷ []) (nw ∷ []) (kw ∷ []) [] h p l n k d = tt
-  serve_made (a ∷ b ∷ []) (pw ∷ []) (lw ∷ []) (nw ∷ []) (kw ∷ []) (dw ∷ v ∷ more) h p l n k d = tt
-  serve_made (a ∷ b ∷ []) (pw ∷ []) (lw ∷ []) (nw ∷ []) (kw ∷ []) (dw ∷ []) h p l n k d = (
+  serve_listed : (k : Setting) → values_of k parts ≡ listed (first_given (values_of k parts))
+  serve_listed k = under_listed had k (values_of k parts) (under k)
+
+  serve_reads : (k : Setting) → IfSome (first_given (values_of k parts)) (λ word. reader_of k word ≡ true)
+  serve_reads k = under_reads had k (values_of k parts) (under k)
+
+  serve_made : (vs ps ls ns : List Text) → plain_words parts ≡ vs → values_of port_option parts ≡ ps → values_of lanes_option parts ≡ ls → values_of shards_option parts ≡ ns
+      → AreWordsOf (serve_of vs ps ls ns (values_of sessions_option parts) (values_of close_option parts) (values_of control_option parts) (values_of journal_option parts)
+      (values_of ledger_option parts) (values_of early_option parts)) (codes "serve" ∷ rest)
+  serve_made [] ps ls ns h p l n = tt
+  serve_made (a ∷ []) ps ls ns h p l n = tt
+  serve_made (a ∷ b ∷ c ∷ more) ps ls ns h p l n = tt
+  serve_made (a ∷ b ∷ []) [] ls ns h p l n = tt
+  serve_made (a ∷ b ∷ []) (pw ∷ v ∷ more) ls ns h p l n = tt
+  serve_made (a ∷ b ∷ []) (pw ∷ []) [] ns h p l n = tt
+  serve_made (a ∷ b ∷ []) (pw ∷ []) (lw ∷ v ∷ more) ns h p l n = tt
+  serve_made (a ∷ b ∷ []) (pw ∷ []) (lw ∷ []) [] h p l n = tt
+  serve_made (a ∷ b ∷ []) (pw ∷ []) (lw ∷ []) (nw ∷ v ∷ more) h p l n = tt
+  serve_made (a ∷ b ∷ []) (pw ∷ []) (lw ∷ []) (nw ∷ []) h p l n = (
     record {
       fares = a;
       zone = b;
       port = pw;
       lanes = lw;
       shards = nw;
-      sessions = kw;
-      close = dw;
+      sessions = first_given (values_of sessions_option parts);
+      close = first_given (values_of close_option parts);
+      control = first_given (values_of control_option parts);
       journal = first_given (values_of journal_option parts);
       ledger = first_given (values_of ledger_option parts);
       early = is_given (values_of early_option parts);
@@ -240,12 +243,20 @@ module _ (rest : List Text) (parts : List Part) (had : List Row) (s : Says serve
     (
       s.1,
       h,
-      (p, l, n, k, d),
-      under_listed had journal_option (values_of journal_option parts) (under journal_option),
-      under_listed had ledger_option (values_of ledger_option parts) (under ledger_option),
+      (p, l, n),
+      (serve_listed sessions_option, serve_listed close_option, serve_listed control_option),
+      serve_listed journal_option,
+      serve_listed ledger_option,
       under_flags had early_option refl (values_of early_option parts) (under early_option),
     ),
-    (serve_fits port_option pw p, serve_fits lanes_option lw l, serve_fits shards_option nw n, serve_fits sessions_option kw k, serve_fits close_option dw d),
+    (
+      serve_fits port_option pw p,
+      serve_fits lanes_option lw l,
+      serve_fits shards_option nw n,
+      serve_reads sessions_option,
+      serve_reads close_option,
+      serve_reads control_option,
+    ),
     refl,
   )
 
@@ -256,7 +267,7 @@ after_serve rest = go (all_said serve_grammar rest) (Level serve_shape [] (stand
     go : (x : Said) (ks : Kinds) (rows : List Row) → Says serve_grammar (codes "serve") serve_rules serve_built serve_apart x (without_dashes rest)
         → Comes serve_grammar (codes "serve") serve_rules serve_built serve_apart x ks rows → AreWordsOf (serve_asked x) (codes "serve" ∷ rest)
     go (all_of parts) ks rows s h = serve_made rest parts h.0 s h.1.2 (plain_words parts) (values_of port_option parts) (values_of lanes_option parts) (values_of shards_option parts)
-        (values_of sessions_option parts) (values_of close_option parts) refl refl refl refl refl refl
+        refl refl refl refl
     go help_wanted ks rows s h = tt
     go not_taken ks rows s h = tt
 
@@ -331,9 +342,9 @@ allowed_too (check c) ws h = go (has_against c) refl
     go false is = rw is tt
 allowed_too (statement s) ws h = h
 allowed_too (replay a b files) ws h = h
-allowed_too (serve s) ws h = go (has_ports s) refl
+allowed_too (serve s) ws h = go (is_whole s) refl
   where
-    go : (fits : Bool) → has_ports s ≡ fits → AreWordsOf (allowed (serve s)) ws
+    go : (fits : Bool) → is_whole s ≡ fits → AreWordsOf (allowed (serve s)) ws
     go true is = rw is h
     go false is = rw is tt
 allowed_too (audit a) ws h = h
@@ -394,6 +405,7 @@ module _ (r : Run) (parts : List Part) (are : AreRunParts r parts) where
   run_once shards_option = none_of_run shards_option (λ e. cc)
   run_once sessions_option = none_of_run sessions_option (λ e. cc)
   run_once close_option = none_of_run close_option (λ e. cc)
+  run_once control_option = none_of_run control_option (λ e. cc)
   run_once journal_option = subst (Once journal_option) (sym are.2) (once_listed journal_option r.journal (λ v. refl))
   run_once sync_option = subst (Once sync_option) (sym are.3) (once_flags sync_option refl r.syncs)
   run_once ledger_option = subst (Once ledger_option) (sym are.4) (once_listed ledger_option r.ledger (λ v. refl))
@@ -418,9 +430,9 @@ pub asks_run : (ws : List Text) (name : Text) (r : Run) (parts : List Part) → 
 asks_run ws name r parts is are may f z journal = ap asked is ∙ (ap (λ (x : Said). allowed (run_asked x)) (parts_taken run_grammar parts (run_taken r parts are f z) may)
     ∙ (ap allowed (run_is r parts are) ∙ (rw journal refl)))
 
-once_day : (o : Option Text) → IfSome o (λ word. reader_of after_option word ≡ true) → Once after_option (listed o)
-once_day None fits = tt
-once_day (Some v) fits = fits
+once_number : (k : Setting) (o : Option Text) → IfSome o (λ word. reader_of k word ≡ true) → Once k (listed o)
+once_number k None fits = tt
+once_number k (Some v) fits = fits
 
 module _ (t : CheckTexts) (parts : List Part) (are : AreCheckParts t parts) (fits : HasAfterInRange t) where
   none_of_check : (k : Setting) → (IsOption check_grammar k → ⊥) → Once k (values_of k parts)
@@ -432,13 +444,14 @@ module _ (t : CheckTexts) (parts : List Part) (are : AreCheckParts t parts) (fit
   check_once shards_option = none_of_check shards_option (λ e. cc)
   check_once sessions_option = none_of_check sessions_option (λ e. cc)
   check_once close_option = none_of_check close_option (λ e. cc)
+  check_once control_option = none_of_check control_option (λ e. cc)
   check_once journal_option = none_of_check journal_option (λ e. cc)
   check_once sync_option = none_of_check sync_option (λ e. cc)
   check_once ledger_option = none_of_check ledger_option (λ e. cc)
   check_once early_option = none_of_check early_option (λ e. cc)
   check_once lint_option = subst (Once lint_option) (sym are.2) (once_flags lint_option refl t.lints)
   check_once against_option = subst (Once against_option) (sym are.3) (once_listed against_option t.against (λ v. refl))
-  check_once after_option = subst (Once after_option) (sym are.4) (once_day t.after fits)
+  check_once after_option = subst (Once after_option) (sym are.4) (once_number after_option t.after fits)
 
   check_taken : slice_index t.fares 0 ≢ 45 → AreTaken check_grammar parts
   check_taken f = record {
@@ -466,6 +479,7 @@ module _ (t : StatementTexts) (parts : List Part) (are : AreStatementParts t par
   statement_once shards_option = none_of_statement shards_option (λ e. cc)
   statement_once sessions_option = none_of_statement sessions_option (λ e. cc)
   statement_once close_option = none_of_statement close_option (λ e. cc)
+  statement_once control_option = none_of_statement control_option (λ e. cc)
   statement_once journal_option = subst (Once journal_option) (sym are.2) (once_listed journal_option t.journal (λ v. refl))
   statement_once sync_option = none_of_statement sync_option (λ e. cc)
   statement_once ledger_option = none_of_statement ledger_option (λ e. cc)
@@ -507,15 +521,16 @@ module _ (t : ServeTexts) (parts : List Part) (are : ArePartsOf t parts) (fits :
   serve_once port_option = subst (Once port_option) (sym are.2.0) fits.0
   serve_once lanes_option = subst (Once lanes_option) (sym are.2.1) fits.1
   serve_once shards_option = subst (Once shards_option) (sym are.2.2) fits.2
-  serve_once sessions_option = subst (Once sessions_option) (sym are.2.3) fits.3
-  serve_once close_option = subst (Once close_option) (sym are.2.4) fits.4
-  serve_once journal_option = subst (Once journal_option) (sym are.3) (once_listed journal_option t.journal (λ v. refl))
+  serve_once sessions_option = subst (Once sessions_option) (sym are.3.0) (once_number sessions_option t.sessions fits.3)
+  serve_once close_option = subst (Once close_option) (sym are.3.1) (once_number close_option t.close fits.4)
+  serve_once control_option = subst (Once control_option) (sym are.3.2) (once_number control_option t.control fits.5)
+  serve_once journal_option = subst (Once journal_option) (sym are.4) (once_listed journal_option t.journal (λ v. refl))
   serve_once sync_option = none_of_serve sync_option (λ e. cc)
   serve_once lint_option = none_of_serve lint_option (λ e. cc)
   serve_once against_option = none_of_serve against_option (λ e. cc)
   serve_once after_option = none_of_serve after_option (λ e. cc)
-  serve_once ledger_option = subst (Once ledger_option) (sym are.4) (once_listed ledger_option t.ledger (λ v. refl))
-  serve_once early_option = subst (Once early_option) (sym are.5) (once_flags early_option refl t.early)
+  serve_once ledger_option = subst (Once ledger_option) (sym are.5) (once_listed ledger_option t.ledger (λ v. refl))
+  serve_once early_option = subst (Once early_option) (sym are.6) (once_flags early_option refl t.early)
 
   serve_taken : slice_index t.fares 0 ≢ 45 → slice_index t.zone 0 ≢ 45 → AreTaken serve_grammar parts
   serve_taken f z = record {
@@ -526,12 +541,29 @@ module _ (t : ServeTexts) (parts : List Part) (are : ArePartsOf t parts) (fits :
   }
 
   serve_is : serve_asked (all_of parts) ≡ serve (numbers_of t)
-  serve_is = rw (are.1, are.2.0, are.2.1, are.2.2, are.2.3, are.2.4, are.3, are.4, are.5, first_listed t.journal, first_listed t.ledger, given_flags t.early) refl
+  serve_is = rw (
+    are.1,
+    are.2.0,
+    are.2.1,
+    are.2.2,
+    are.3.0,
+    are.3.1,
+    are.3.2,
+    are.4,
+    are.5,
+    are.6,
+    first_listed t.sessions,
+    first_listed t.close,
+    first_listed t.control,
+    first_listed t.journal,
+    first_listed t.ledger,
+    given_flags t.early,
+  ) refl
 
 pub asks_serve : (ws : List Text) (name : Text) (t : ServeTexts) (parts : List Part) → ws ≡ name ∷ codes "serve" ∷ words_of_parts parts → ArePartsOf t parts → StandApart parts
-    → slice_index t.fares 0 ≢ 45 → slice_index t.zone 0 ≢ 45 → AreInRange t → has_ports (numbers_of t) ≡ true → asked ws ≡ serve (numbers_of t)
-asks_serve ws name t parts is are may f z fits ports = ap asked is ∙ (ap (λ (x : Said). allowed (serve_asked x)) (parts_taken serve_grammar parts (serve_taken t parts are fits f z) may)
-    ∙ (ap allowed (serve_is t parts are fits) ∙ (rw ports refl)))
+    → slice_index t.fares 0 ≢ 45 → slice_index t.zone 0 ≢ 45 → AreInRange t → is_whole (numbers_of t) ≡ true → asked ws ≡ serve (numbers_of t)
+asks_serve ws name t parts is are may f z fits whole = ap asked is ∙ (ap (λ (x : Said). allowed (serve_asked x)) (parts_taken serve_grammar parts (serve_taken t parts are fits f z) may)
+    ∙ (ap allowed (serve_is t parts are fits) ∙ (rw whole refl)))
 
 module _ (a : Audit) (parts : List Part) (are : AreAuditParts a parts) where
   none_of_audit : (k : Setting) → (IsOption audit_grammar k → ⊥) → Once k (values_of k parts)
@@ -543,6 +575,7 @@ module _ (a : Audit) (parts : List Part) (are : AreAuditParts a parts) where
   audit_once shards_option = none_of_audit shards_option (λ e. cc)
   audit_once sessions_option = none_of_audit sessions_option (λ e. cc)
   audit_once close_option = none_of_audit close_option (λ e. cc)
+  audit_once control_option = none_of_audit control_option (λ e. cc)
   audit_once journal_option = subst (Once journal_option) (sym are.2) refl
   audit_once sync_option = none_of_audit sync_option (λ e. cc)
   audit_once ledger_option = subst (Once ledger_option) (sym are.3) (once_listed ledger_option a.ledger (λ v. refl))

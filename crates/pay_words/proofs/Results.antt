@@ -1,5 +1,5 @@
 -- What the clauses of the result say, by what `clap` makes of the words.
-use Rattle.std.proofs.Common.{◌≡◌, ◌∙◌, ◌≤◌, Bool, false, ℕ, codes, true, refl, sym, ap, subst, List, [], ◌∷◌, Option, Some, None, ◌⊎◌, inl, inr, true≢false, option_map, drop, Result, Ok, Err, IfOk, IfErr, MatchResult, slice_index, ◌≢◌}
+use Rattle.std.proofs.Common.{◌≡◌, ◌∙◌, ◌≤◌, ◌==◌, ◌&&◌, not, nat_le, eq-eqb, Bool, false, ℕ, codes, true, refl, sym, ap, subst, List, [], ◌∷◌, Option, Some, None, ◌⊎◌, inl, inr, true≢false, option_map, drop, Result, Ok, Err, IfOk, IfErr, MatchResult, slice_index, ◌≢◌}
 use Rattle.clap.specs.Walk.{Row, Text}
 use Rattle.clap.specs.Simple.{subcommand_of}
 use Rattle.clap.specs.Kinds.{Kinds}
@@ -10,7 +10,7 @@ use Rattle.pay_words.specs.Options.{Part, StandApart, words_of_parts}
 use Rattle.pay_words.specs.Audit.{AreAuditParts, Audit}
 use Rattle.pay_words.specs.Check.{AreCheckParts, Check, CheckTexts, HasAfterInRange, check_of_texts, has_against}
 use Rattle.pay_words.specs.Run.{AreRunParts, Run, has_journal}
-use Rattle.pay_words.specs.Serve.{AreInRange, ArePartsOf, Serve, ServeTexts, has_ports, last_port, numbers_of}
+use Rattle.pay_words.specs.Serve.{AreInRange, ArePartsOf, Serve, ServeTexts, is_whole, last_port, numbers_of}
 use Rattle.pay_words.specs.Statement.{AreStatementParts, HasNumbersInRange, Statement, StatementTexts, statement_of_texts}
 use Rattle.std.specs.List.{list_all}
 use Rattle.clap.specs.Words.{HasMatchesOf, IsAmong, all_of, first_of, first_value, matched_of, raw_values, rows_of, subcommand_rows_of}
@@ -21,11 +21,11 @@ use Rattle.clap.specs.declared.builder.value_parser.ValueParser.TheVariants as v
 use Rattle.clap.specs.ValueTests.{is_unsigned_in}
 use Rattle.clap.proofs.ValueTestLemmas.{accepts-Accepts}
 use Rattle.clap.specs.Walk.{one_of}
-use Rattle.std.proofs.lemmas.Bool.{leb-true}
+use Rattle.std.proofs.lemmas.Bool.{leb-true, not-true}
 use Rattle.clap.proofs.WalkLemmas.{both, first_value-rows, one_text-rows, raw_values-rows}
 use Rattle.std.specs.Prelude.{IfSome, IsOkAnd, ⊤}
 use Rattle.pay_words.specs.declared.words.Job.{Job}
-use Rattle.pay_words.specs.declared.words.Job.TheVariants.{Run as RunJob, Check as CheckJob, Statement as StatementJob, Replay, Serve as ServeJob, Audit as AuditJob, Rebuild}
+use Rattle.pay_words.specs.declared.words.Job.TheVariants.{Run as RunJob, Check as CheckJob, Statement as StatementJob, Replay, Serve as ServeJob, Stay as StayJob, Audit as AuditJob, Rebuild}
 use Rattle.pay_words.specs.declared.words.WordsFault.{WordsFault}
 use Rattle.pay_words.specs.declared.words.WordsFault.TheVariants.{Help, Version, Usage, Memory}
 use Rattle.pay_words.specs.CommandLine.{GivesAudit, GivesCheck, GivesRebuild, GivesReplay, GivesRun, GivesServe, GivesStatement, HasAudit, HasCheckTexts, HasFaresAndLedger, HasRun, HasServeTexts, HasStatementTexts, IsFaultOfKind, IsHelpOrMemory, IsVersionOrMemory, farebox_app, values_and_files}
@@ -204,9 +204,10 @@ serve_texts m f s same gives =
       one_text-rows f (codes "shards") ∙ (ap (one_of (codes "shards")) rows_are ∙ h.4),
       one_text-rows f (codes "sessions") ∙ (ap (one_of (codes "sessions")) rows_are ∙ h.5),
       one_text-rows f (codes "close") ∙ (ap (one_of (codes "close")) rows_are ∙ h.6),
-      first_value-rows f (codes "journal") ∙ (ap (first_of (codes "journal")) rows_are ∙ h.7),
-      first_value-rows f (codes "ledger") ∙ (ap (first_of (codes "ledger")) rows_are ∙ h.8),
-      one_text-rows f (codes "early") ∙ (ap (one_of (codes "early")) rows_are ∙ h.9),
+      one_text-rows f (codes "control") ∙ (ap (one_of (codes "control")) rows_are ∙ h.7),
+      first_value-rows f (codes "journal") ∙ (ap (first_of (codes "journal")) rows_are ∙ h.8),
+      first_value-rows f (codes "ledger") ∙ (ap (first_of (codes "ledger")) rows_are ∙ h.9),
+      one_text-rows f (codes "early") ∙ (ap (one_of (codes "early")) rows_are ∙ h.10),
     )
 
 -- the matches of `audit` have what it is asked for
@@ -278,6 +279,7 @@ job_words_are ws (CheckJob w) e = subst (λ (x : Asked). AreWordsOf x (drop 1 ws
 job_words_are ws (StatementJob w) e = subst (λ (x : Asked). AreWordsOf x (drop 1 ws)) e (in_order ws)
 job_words_are ws (Replay w) e = (subst (λ (x : Asked). AreWordsOf x (drop 1 ws)) e (in_order ws)).0
 job_words_are ws (ServeJob w) e = subst (λ (x : Asked). AreWordsOf x (drop 1 ws)) e (in_order ws)
+job_words_are ws (StayJob w) e = subst (λ (x : Asked). AreWordsOf x (drop 1 ws)) e (in_order ws)
 job_words_are ws (AuditJob w) e = subst (λ (x : Asked). AreWordsOf x (drop 1 ws)) e (in_order ws)
 job_words_are ws (Rebuild w) e = subst (λ (x : Asked). AreWordsOf x (drop 1 ws)) e (in_order ws)
 
@@ -297,11 +299,11 @@ by_memory x y Usage e task (inl h) = absurd (subst IsTask (sym e ∙ h) task)
 by_memory x y Usage e task (inr h) = absurd (subst IsTask (sym e ∙ h) task)
 by_memory x y Memory e task h = refl
 
--- what is asked for has its journal, its other fare file, or its ports
+-- what is asked for has its journal, its other fare file, or what its form of a service needs
 abbrev IsAllowed : Asked → Type 0
 IsAllowed (run r) = has_journal r ≡ true
 IsAllowed (check c) = has_against c ≡ true
-IsAllowed (serve s) = has_ports s ≡ true
+IsAllowed (serve s) = is_whole s ≡ true
 IsAllowed _ = ⊤
 
 asked_is_allowed : (x : Asked) → IsAllowed (allowed x)
@@ -315,9 +317,9 @@ asked_is_allowed (check c) = go (has_against c) refl
     go : (t : Bool) → has_against c ≡ t → IsAllowed (allowed (check c))
     go true is = rw is is
     go false is = rw is tt
-asked_is_allowed (serve s) = go (has_ports s) refl
+asked_is_allowed (serve s) = go (is_whole s) refl
   where
-    go : (t : Bool) → has_ports s ≡ t → IsAllowed (allowed (serve s))
+    go : (t : Bool) → is_whole s ≡ t → IsAllowed (allowed (serve s))
     go true is = rw is is
     go false is = rw is tt
 asked_is_allowed (statement s) = tt
@@ -343,6 +345,12 @@ given_in_range least most (Some w) (Some n) fits is =
     let same : number_of w ≡ n = cc in
     number_in_range least most w n fits same
 
+-- the port of the staff is another, and a lane is left for them
+room_left : (control port lanes : ℕ) → (not (control == port) && nat_le lanes 14) ≡ true → (control ≢ port) × (lanes ≤ 14)
+room_left control port lanes is =
+    let each = both (not (control == port)) (nat_le lanes 14) is in
+    (λ same. true≢false (sym (eq-eqb control port same) ∙ not-true (control == port) each.0), leb-true lanes 14 each.1)
+
 job_in_range : (ws : List Text) (job : Job) → asked ws ≡ job_asked job → IsJobInRange job
 job_in_range ws (RunJob w) e = subst IsAllowed e (asked_is_allowed (words_ask ws))
 job_in_range ws (CheckJob w) e =
@@ -361,10 +369,18 @@ job_in_range ws (ServeJob w) e =
     let port = number_in_range 1 65_535 made.0.port w.port made.4.0 (ap (λ (s : Serve). s.port) made.5) in
     let lanes = number_in_range 1 15 made.0.lanes w.lanes made.4.1 (ap (λ (s : Serve). s.lanes) made.5) in
     let shards = number_in_range 1 16 made.0.shards w.shards made.4.2 (ap (λ (s : Serve). s.shards) made.5) in
-    let sessions = number_in_range 1 1_000 made.0.sessions w.sessions made.4.3 (ap (λ (s : Serve). s.sessions) made.5) in
-    let close = number_in_range 4 50_000 made.0.close w.close made.4.4 (ap (λ (s : Serve). s.close) made.5) in
+    let sessions = given_in_range 1 1_000 made.0.sessions (Some w.sessions) made.4.3 (ap (λ (s : Serve). s.sessions) made.5) in
+    let close = given_in_range 4 50_000 made.0.close (Some w.close) made.4.4 (ap (λ (s : Serve). s.close) made.5) in
     let ports : last_port w.port w.lanes ≤ 65_535 = leb-true (last_port w.port w.lanes) 65_535 (subst IsAllowed e (asked_is_allowed (words_ask ws))) in
     (port.0, lanes.0, lanes.1, ports, shards.0, shards.1, sessions.0, sessions.1, close.0, close.1)
+job_in_range ws (StayJob w) e =
+    let made = job_words_are ws (StayJob w) e in
+    let port = number_in_range 1 65_535 made.0.port w.port made.4.0 (ap (λ (s : Serve). s.port) made.5) in
+    let lanes = number_in_range 1 15 made.0.lanes w.lanes made.4.1 (ap (λ (s : Serve). s.lanes) made.5) in
+    let shards = number_in_range 1 16 made.0.shards w.shards made.4.2 (ap (λ (s : Serve). s.shards) made.5) in
+    let control = given_in_range 1 65_535 made.0.control (Some w.control) made.4.5 (ap (λ (s : Serve). s.control) made.5) in
+    let room = room_left w.control w.port w.lanes (both _ _ (subst IsAllowed e (asked_is_allowed (words_ask ws)))).0 in
+    (port.0, control.0, room.0, lanes.0, room.1, shards.0, shards.1)
 job_in_range ws (AuditJob w) e = tt
 job_in_range ws (Rebuild w) e = tt
 
@@ -409,8 +425,8 @@ module _ (r : Result Job WordsFault) (ws : List Text) (ok : IfOk r (λ job. aske
   result_replay name fares zone file files is f z h = job_or_memory r ws (replay fares zone (file ∷ files)) ok err (asks_replay ws name fares zone file files is f z h) tt
 
   pub result_serve : (name : Text) (t : ServeTexts) (parts : List Part) → ws ≡ name ∷ codes "serve" ∷ words_of_parts parts → ArePartsOf t parts → StandApart parts
-      → slice_index t.fares 0 ≢ 45 → slice_index t.zone 0 ≢ 45 → AreInRange t → has_ports (numbers_of t) ≡ true → IsJobOrMemory (serve (numbers_of t)) r
-  result_serve name t parts is are may f z fits ports = job_or_memory r ws (serve (numbers_of t)) ok err (asks_serve ws name t parts is are may f z fits ports) tt
+      → slice_index t.fares 0 ≢ 45 → slice_index t.zone 0 ≢ 45 → AreInRange t → is_whole (numbers_of t) ≡ true → IsJobOrMemory (serve (numbers_of t)) r
+  result_serve name t parts is are may f z fits whole = job_or_memory r ws (serve (numbers_of t)) ok err (asks_serve ws name t parts is are may f z fits whole) tt
 
   pub result_audit : (name : Text) (a : Audit) (parts : List Part) → ws ≡ name ∷ codes "audit" ∷ words_of_parts parts → AreAuditParts a parts → StandApart parts
       → slice_index a.fares 0 ≢ 45 → slice_index a.zone 0 ≢ 45 → IsJobOrMemory (audit a) r

@@ -1,6 +1,6 @@
 -- What `clap` makes of the words after `serve`.
 use Rattle.std.proofs.Common.{◌≡◌, ◌∙◌, ◌+◌, codes, true, false, refl, sym, ap, subst, List, [], ◌∷◌, ◌++◌, Some, None}
-use Rattle.std.specs.Prelude.{fold, min, option_map}
+use Rattle.std.specs.Prelude.{IfSome, fold, min, option_map}
 use Rattle.std.specs.Str.{bytes_eq}
 use Rattle.clap.specs.Lexer.{usize_max}
 use Rattle.clap.specs.Walk.{Row, Rule, Text, arg_by_index, idle, one_of, with_default}
@@ -9,11 +9,11 @@ use Rattle.clap.specs.Kinds.{Kinds}
 use Rattle.clap.specs.Faults.{check_fault}
 use Rattle.pay_words.specs.Asked.{serve_asked, serve_of}
 use Rattle.pay_words.specs.CommandLine.{flag_text}
-use Rattle.pay_words.specs.Options.{Part, Place, Said, Setting, all_of, all_said, help_wanted, name_of, not_taken, place_after, plain_words, values_of}
-use Rattle.pay_words.specs.Options.{fares_place, zone_place, port_option, lanes_option, shards_option, sessions_option, close_option, journal_option, ledger_option, early_option}
+use Rattle.pay_words.specs.Options.{Part, Place, Said, Setting, all_of, all_said, help_wanted, name_of, not_taken, place_after, plain_words, reader_of, values_of}
+use Rattle.pay_words.specs.Options.{fares_place, zone_place, port_option, lanes_option, shards_option, sessions_option, close_option, control_option, journal_option, ledger_option, early_option}
 use Rattle.pay_words.specs.Run.{first_given, is_given}
 use Rattle.pay_words.specs.Serve.{serve_grammar}
-use Rattle.pay_words.proofs.OptionEnds.{IsFinal, flag_final, places_final, under_final, under_first}
+use Rattle.pay_words.proofs.OptionEnds.{IsFinal, flag_final, places_final, under_final, under_first, under_one}
 use Rattle.pay_words.proofs.OptionRows.{no_default_faults, no_defaults}
 use Rattle.pay_words.proofs.OptionRules.{IsBuilt, is_needed, position_of, rule_at, rule_by_long, rules_for, setting_rule}
 use Rattle.pay_words.proofs.WordLevels.{Level, rows_from}
@@ -23,7 +23,7 @@ use Rattle.pay_words.proofs.WordsAfterOptions.{AreApart, Holds, Places, Under, e
 use Rattle.pay_words.proofs.WordsOfProgram.{Comes, program_shape}
 
 abbrev pub serve_rules : List Rule
-serve_rules = rule_at fares_place ∷ rule_at zone_place ∷ rules_for is_needed (port_option ∷ lanes_option ∷ shards_option ∷ sessions_option ∷ close_option ∷ journal_option ∷ ledger_option ∷ early_option ∷ [])
+serve_rules = rule_at fares_place ∷ rule_at zone_place ∷ rules_for is_needed (port_option ∷ lanes_option ∷ shards_option ∷ sessions_option ∷ close_option ∷ control_option ∷ journal_option ∷ ledger_option ∷ early_option ∷ [])
 
 abbrev pub serve_shape : Shape
 serve_shape = program_shape (codes "serve") serve_rules
@@ -48,38 +48,64 @@ serve_built = record {
   needs = is_needed;
   by_long = λ name. rule_by_long is_needed serve_grammar.options name;
   by_short = λ x. refl;
-  by_name = (refl, (refl, (refl, (refl, (refl, (refl, (refl, (refl, tt))))))));
+  by_name = (refl, (refl, (refl, (refl, (refl, (refl, (refl, (refl, (refl, tt)))))))));
   by_place = (refl, (refl, tt));
   by_index = serve_index;
   next = serve_next;
-  defaults = λ rows. no_default_faults serve_rules rows (refl, (refl, (refl, (refl, (refl, (refl, (refl, (refl, (refl, (refl, (refl, tt)))))))))));
+  defaults = λ rows. no_default_faults serve_rules rows (refl, (refl, (refl, (refl, (refl, (refl, (refl, (refl, (refl, (refl, (refl, (refl, tt))))))))))));
 }
 
+-- what an option was given passed its reader
+pub under_reads : (rows : List Row) (k : Setting) (vs : List Text) → Under rows k vs → IfSome (first_given vs) (λ word. reader_of k word ≡ true)
+under_reads rows k [] h = tt
+under_reads rows k (v ∷ []) h = h.1
+under_reads rows k (v ∷ w ∷ more) h = absurd h
+
 -- what is asked for by all that was given, and what `clap` says of it
-finish : (vs ps ls ns ks ds js gs es : List Text) (rows : List Row) → Places serve_grammar.places vs rows → Under rows port_option ps → Under rows lanes_option ls
-    → Under rows shards_option ns → Under rows sessions_option ks → Under rows close_option ds → Under rows journal_option js → Under rows ledger_option gs
-    → one_of (codes "early") rows ≡ Some (flag_text (is_given es)) → Comes (serve_of vs ps ls ns ks ds js gs es) (check_fault serve_shape rows false) (Some (codes "serve", rows))
-finish [] ps ls ns ks ds js gs es rows h p l n k d j g e = rw h.0 refl
-finish (a ∷ []) ps ls ns ks ds js gs es rows h p l n k d j g e = rw (h.0, h.2.0) refl
-finish (a ∷ b ∷ c ∷ more) ps ls ns ks ds js gs es rows h p l n k d j g e = absurd h.2.2
-finish (a ∷ b ∷ []) [] ls ns ks ds js gs es rows h p l n k d j g e = rw (h.0, h.2.0, p) refl
-finish (a ∷ b ∷ []) (pw ∷ v ∷ more) ls ns ks ds js gs es rows h p l n k d j g e = absurd p
-finish (a ∷ b ∷ []) (pw ∷ []) [] ns ks ds js gs es rows h p l n k d j g e = rw (h.0, h.2.0, p.0, l) refl
-finish (a ∷ b ∷ []) (pw ∷ []) (lw ∷ v ∷ more) ns ks ds js gs es rows h p l n k d j g e = absurd l
-finish (a ∷ b ∷ []) (pw ∷ []) (lw ∷ []) [] ks ds js gs es rows h p l n k d j g e = rw (h.0, h.2.0, p.0, l.0, n) refl
-finish (a ∷ b ∷ []) (pw ∷ []) (lw ∷ []) (nw ∷ v ∷ more) ks ds js gs es rows h p l n k d j g e = absurd n
-finish (a ∷ b ∷ []) (pw ∷ []) (lw ∷ []) (nw ∷ []) [] ds js gs es rows h p l n k d j g e = rw (h.0, h.2.0, p.0, l.0, n.0, k) refl
-finish (a ∷ b ∷ []) (pw ∷ []) (lw ∷ []) (nw ∷ []) (kw ∷ v ∷ more) ds js gs es rows h p l n k d j g e = absurd k
-finish (a ∷ b ∷ []) (pw ∷ []) (lw ∷ []) (nw ∷ []) (kw ∷ []) [] js gs es rows h p l n k d j g e = rw (h.0, h.2.0, p.0, l.0, n.0, k.0, d) refl
-finish (a ∷ b ∷ []) (pw ∷ []) (lw ∷ []) (nw ∷ []) (kw ∷ []) (dw ∷ v ∷ more) js gs es rows h p l n k d j g e = absurd d
-finish (a ∷ b ∷ []) (pw ∷ []) (lw ∷ []) (nw ∷ []) (kw ∷ []) (dw ∷ []) js gs es rows h p l n k d j g e = (
-  rw (h.0, h.2.0, p.0, l.0, n.0, k.0, d.0) refl,
+finish : (vs ps ls ns ks ds cs js gs es : List Text) (rows : List Row) → Places serve_grammar.places vs rows → Under rows port_option ps → Under rows lanes_option ls
+    → Under rows shards_option ns → Under rows sessions_option ks → Under rows close_option ds → Under rows control_option cs → Under rows journal_option js → Under rows ledger_option gs
+    → one_of (codes "early") rows ≡ Some (flag_text (is_given es)) → Comes (serve_of vs ps ls ns ks ds cs js gs es) (check_fault serve_shape rows false) (Some (codes "serve", rows))
+finish [] ps ls ns ks ds cs js gs es rows h p l n k d c j g e = rw h.0 refl
+finish (a ∷ []) ps ls ns ks ds cs js gs es rows h p l n k d c j g e = rw (h.0, h.2.0) refl
+finish (a ∷ b ∷ z ∷ more) ps ls ns ks ds cs js gs es rows h p l n k d c j g e = absurd h.2.2
+finish (a ∷ b ∷ []) [] ls ns ks ds cs js gs es rows h p l n k d c j g e = rw (h.0, h.2.0, p) refl
+finish (a ∷ b ∷ []) (pw ∷ v ∷ more) ls ns ks ds cs js gs es rows h p l n k d c j g e = absurd p
+finish (a ∷ b ∷ []) (pw ∷ []) [] ns ks ds cs js gs es rows h p l n k d c j g e = rw (h.0, h.2.0, p.0, l) refl
+finish (a ∷ b ∷ []) (pw ∷ []) (lw ∷ v ∷ more) ns ks ds cs js gs es rows h p l n k d c j g e = absurd l
+finish (a ∷ b ∷ []) (pw ∷ []) (lw ∷ []) [] ks ds cs js gs es rows h p l n k d c j g e = rw (h.0, h.2.0, p.0, l.0, n) refl
+finish (a ∷ b ∷ []) (pw ∷ []) (lw ∷ []) (nw ∷ v ∷ more) ks ds cs js gs es rows h p l n k d c j g e = absurd n
+finish (a ∷ b ∷ []) (pw ∷ []) (lw ∷ []) (nw ∷ []) ks ds cs js gs es rows h p l n k d c j g e = (
+  rw (h.0, h.2.0, p.0, l.0, n.0) refl,
   (
-    record { fares = a; zone = b; port = pw; lanes = lw; shards = nw; sessions = kw; close = dw; journal = first_given js; ledger = first_given gs; early = is_given es },
+    record {
+      fares = a;
+      zone = b;
+      port = pw;
+      lanes = lw;
+      shards = nw;
+      sessions = first_given ks;
+      close = first_given ds;
+      control = first_given cs;
+      journal = first_given js;
+      ledger = first_given gs;
+      early = is_given es;
+    },
     rows,
     refl,
-    (rw h.0 refl, rw h.2.0 refl, rw p.0 refl, rw l.0 refl, rw n.0 refl, rw k.0 refl, rw d.0 refl, under_first rows journal_option js j, under_first rows ledger_option gs g, e),
-    (p.1, l.1, n.1, k.1, d.1),
+    (
+      rw h.0 refl,
+      rw h.2.0 refl,
+      rw p.0 refl,
+      rw l.0 refl,
+      rw n.0 refl,
+      under_one rows sessions_option ks k,
+      under_one rows close_option ds d,
+      under_one rows control_option cs c,
+      under_first rows journal_option js j,
+      under_first rows ledger_option gs g,
+      e,
+    ),
+    (p.1, l.1, n.1, under_reads rows sessions_option ks k, under_reads rows close_option ds d, under_reads rows control_option cs c),
     refl,
   ),
 )
@@ -87,8 +113,9 @@ finish (a ∷ b ∷ []) (pw ∷ []) (lw ∷ []) (nw ∷ []) (kw ∷ []) (dw ∷ 
 serve_ended : (rows : List Row) → fold with_default rows serve_rules ≡ with_default rows (setting_rule false early_option)
 serve_ended rows =
     ap (λ (r : List Row). fold with_default r (rules_for is_needed (early_option ∷ [])))
-    (no_defaults (rule_at fares_place ∷ rule_at zone_place ∷ setting_rule true port_option ∷ setting_rule true lanes_option ∷ setting_rule true shards_option ∷ setting_rule true sessions_option
-    ∷ setting_rule true close_option ∷ setting_rule false journal_option ∷ setting_rule false ledger_option ∷ []) rows (refl, (refl, (refl, (refl, (refl, (refl, (refl, (refl, (refl, tt))))))))))
+    (no_defaults (rule_at fares_place ∷ rule_at zone_place ∷ setting_rule true port_option ∷ setting_rule true lanes_option ∷ setting_rule true shards_option ∷ setting_rule false sessions_option
+    ∷ setting_rule false close_option ∷ setting_rule false control_option ∷ setting_rule false journal_option ∷ setting_rule false ledger_option ∷ []) rows
+    (refl, (refl, (refl, (refl, (refl, (refl, (refl, (refl, (refl, (refl, tt)))))))))))
     ∙ no_defaults (rules_for is_needed []) (with_default rows (setting_rule false early_option)) (refl, tt)
 
 -- the rows with what the flag comes to
@@ -104,10 +131,10 @@ module _ (parts : List Part) (had : List Row) (h : Holds serve_grammar parts (pl
 
   finished_serve : Comes (serve_asked (all_of parts)) (check_fault serve_shape all_rows false) (Some (codes "serve", all_rows))
   finished_serve = finish (plain_words parts) (values_of port_option parts) (values_of lanes_option parts) (values_of shards_option parts) (values_of sessions_option parts)
-      (values_of close_option parts) (values_of journal_option parts) (values_of ledger_option parts) (values_of early_option parts) all_rows
+      (values_of close_option parts) (values_of control_option parts) (values_of journal_option parts) (values_of ledger_option parts) (values_of early_option parts) all_rows
       (places_final early_option had all_rows (values_of early_option parts) early_final serve_grammar.places (plain_words parts) h.1)
       (serve_under port_option refl) (serve_under lanes_option refl) (serve_under shards_option refl) (serve_under sessions_option refl) (serve_under close_option refl)
-      (serve_under journal_option refl) (serve_under ledger_option refl) early_final.1
+      (serve_under control_option refl) (serve_under journal_option refl) (serve_under ledger_option refl) early_final.1
 
 -- what the words of `serve` come to
 pub serve_ends : (rest : List Text) → Comes (serve_asked (all_said serve_grammar rest)) (Level serve_shape [] (stand [] None idle 1 false) rest false [])

@@ -5,26 +5,28 @@ use Rattle.std.specs.Str.{bytes_eq, chars}
 use Rattle.std.specs.String.{string_bytes}
 use Rattle.clap.specs.Walk.{texts}
 use Rattle.pay_words.specs.declared.words.Job.{Job}
-use Rattle.pay_words.specs.declared.words.Job.TheVariants.{Run as RunJob, Check as CheckJob, Statement as StatementJob, Replay, Serve as ServeJob, Audit as AuditJob, Rebuild}
+use Rattle.pay_words.specs.declared.words.Job.TheVariants.{Run as RunJob, Check as CheckJob, Statement as StatementJob, Replay, Serve as ServeJob, Stay as StayJob, Audit as AuditJob, Rebuild}
 use Rattle.pay_words.specs.declared.words.RunWords.{RunWords}
 use Rattle.pay_words.specs.declared.words.CheckWords.{CheckWords}
 use Rattle.pay_words.specs.declared.words.StatementWords.{StatementWords}
 use Rattle.pay_words.specs.declared.words.ServeWords.{ServeWords}
+use Rattle.pay_words.specs.declared.words.StayWords.{StayWords}
+use Rattle.pay_words.specs.declared.words.Service.{Service}
 use Rattle.pay_words.specs.declared.words.AuditWords.{AuditWords}
 use Rattle.pay_words.specs.declared.words.WordsFault.{WordsFault}
 use Rattle.pay_words.specs.declared.words.WordsFault.TheVariants.{Help, Version, Usage, Memory}
-use Rattle.pay_words.specs.declared.limits.TheConstants.{MOST_ACCOUNT, FIRST_DAY, LAST_DAY, MOST_PORT, MOST_SERVED_LANES, MOST_SHARDS, MOST_SESSIONS}
+use Rattle.pay_words.specs.declared.limits.TheConstants.{MOST_ACCOUNT, FIRST_DAY, LAST_DAY, MOST_PORT, MOST_SERVED_LANES, MOST_STAYING_LANES, MOST_SHARDS, MOST_SESSIONS}
 pub use Rattle.pay_words.specs.OneWord.{Text, Word, value, dashes, call_for_help, call_for_version, option, word_kind}
 pub use Rattle.pay_words.specs.OneWord.{Reader, any_text, is_account, is_day, number_of}
 pub use Rattle.pay_words.specs.Options.{HasNoHyphen}
 use Rattle.pay_words.specs.Options.{Part, Said, StandApart, all_of, all_said, help_wanted, not_taken, plain, apart, joined, plain_words, values_of, words_of_parts}
-use Rattle.pay_words.specs.Options.{port_option, lanes_option, shards_option, sessions_option, close_option, journal_option, sync_option, ledger_option, early_option}
+use Rattle.pay_words.specs.Options.{port_option, lanes_option, shards_option, sessions_option, close_option, control_option, journal_option, sync_option, ledger_option, early_option}
 use Rattle.pay_words.specs.Options.{lint_option, against_option, after_option}
 use Rattle.pay_words.specs.Audit.{AreAuditParts, Audit, audit_grammar}
 use Rattle.pay_words.specs.Check.{AreCheckParts, Check, CheckTexts, HasAfterInRange, check_grammar, check_of_texts, has_against}
 use Rattle.pay_words.specs.Rebuild.{rebuild_grammar}
 use Rattle.pay_words.specs.Run.{AreRunParts, Run, first_given, has_journal, is_given, run_grammar}
-use Rattle.pay_words.specs.Serve.{AreInRange, ArePartsOf, Serve, ServeTexts, has_ports, last_port, numbers_of, serve_grammar}
+use Rattle.pay_words.specs.Serve.{AreInRange, ArePartsOf, Serve, ServeTexts, is_whole, last_port, numbers_of, serve_grammar}
 use Rattle.pay_words.specs.Statement.{AreStatementParts, HasNumbersInRange, Statement, StatementTexts, statement_grammar, statement_of_texts}
 
 -- ---- the words of a program that takes values alone, and help
@@ -139,25 +141,26 @@ replay_asked help = help_asked
 replay_asked _ = usage
 
 -- two values, one value for each option that is needed, and what each other was given
-abbrev pub serve_of : List Text → List Text → List Text → List Text → List Text → List Text → List Text → List Text → List Text → Asked
-serve_of (fares ∷ zone ∷ []) (p ∷ []) (l ∷ []) (n ∷ []) (k ∷ []) (d ∷ []) j g e = serve (numbers_of (record {
+abbrev pub serve_of : List Text → List Text → List Text → List Text → List Text → List Text → List Text → List Text → List Text → List Text → Asked
+serve_of (fares ∷ zone ∷ []) (p ∷ []) (l ∷ []) (n ∷ []) k d c j g e = serve (numbers_of (record {
   fares = fares;
   zone = zone;
   port = p;
   lanes = l;
   shards = n;
-  sessions = k;
-  close = d;
+  sessions = first_given k;
+  close = first_given d;
+  control = first_given c;
   journal = first_given j;
   ledger = first_given g;
   early = is_given e;
 }))
-serve_of _ _ _ _ _ _ _ _ _ = usage
+serve_of _ _ _ _ _ _ _ _ _ _ = usage
 
 -- `serve FARES ZONE` and its options
 abbrev pub serve_asked : Said → Asked
 serve_asked (all_of parts) = serve_of (plain_words parts) (values_of port_option parts) (values_of lanes_option parts)
-    (values_of shards_option parts) (values_of sessions_option parts) (values_of close_option parts)
+    (values_of shards_option parts) (values_of sessions_option parts) (values_of close_option parts) (values_of control_option parts)
     (values_of journal_option parts) (values_of ledger_option parts) (values_of early_option parts)
 serve_asked help_wanted = help_asked
 serve_asked not_taken = usage
@@ -209,12 +212,12 @@ abbrev pub words_ask : List Text → Asked
 words_ask (name ∷ program ∷ rest) = program_asked program rest
 words_ask _ = usage
 
--- lanes that have no port are not served, a run without a journal brings no lines to the disk, and days up to one
--- are compared with another fare file alone
+-- a service ends or stays, a run without a journal brings no lines to the disk, and days up to one are compared with
+-- another fare file alone
 abbrev pub allowed : Asked → Asked
 allowed (run r) = if has_journal r then run r else usage
 allowed (check c) = if has_against c then check c else usage
-allowed (serve s) = if has_ports s then serve s else usage
+allowed (serve s) = if is_whole s then serve s else usage
 allowed what = what
 
 abbrev pub asked : List Text → Asked
@@ -260,8 +263,40 @@ served_job w = record {
   port = w.port;
   lanes = w.lanes;
   shards = w.shards;
+  sessions = Some w.sessions;
+  close = Some w.close;
+  control = None;
+  journal = option_map (λ s. s.now) w.journal;
+  ledger = option_map (λ s. s.now) w.ledger;
+  early = w.early;
+}
+
+abbrev pub staying_job : StayWords → Serve
+staying_job w = record {
+  fares = w.fares.now;
+  zone = w.zone.now;
+  port = w.port;
+  lanes = w.lanes;
+  shards = w.shards;
+  sessions = None;
+  close = None;
+  control = Some w.control;
+  journal = Some w.journal.now;
+  ledger = Some w.ledger.now;
+  early = w.early;
+}
+
+-- the values of `serve`, of either form or of none
+abbrev pub service_values : Service → Serve
+service_values w = record {
+  fares = w.fares.now;
+  zone = w.zone.now;
+  port = w.port;
+  lanes = w.lanes;
+  shards = w.shards;
   sessions = w.sessions;
   close = w.close;
+  control = w.control;
   journal = option_map (λ s. s.now) w.journal;
   ledger = option_map (λ s. s.now) w.ledger;
   early = w.early;
@@ -281,6 +316,7 @@ job_asked (CheckJob w) = check (check_job w)
 job_asked (StatementJob w) = statement (statement_job w)
 job_asked (Replay w) = replay w.fares.now w.zone.now (texts w.files.items)
 job_asked (ServeJob w) = serve (served_job w)
+job_asked (StayJob w) = serve (staying_job w)
 job_asked (AuditJob w) = audit (audit_job w)
 job_asked (Rebuild w) = rebuild w.fares.now w.ledger.now
 
@@ -314,11 +350,12 @@ AreJobWords (CheckJob w) words = AreCheckWords (check_job w) words
 AreJobWords (StatementJob w) words = AreStatementWords (statement_job w) words
 AreJobWords (Replay w) words = words ≡ codes "replay" ∷ w.fares.now ∷ w.zone.now ∷ texts w.files.items
 AreJobWords (ServeJob w) words = AreServeWords (served_job w) words
+AreJobWords (StayJob w) words = AreServeWords (staying_job w) words
 AreJobWords (AuditJob w) words = AreAuditWords (audit_job w) words
 AreJobWords (Rebuild w) words = words ≡ codes "rebuild" ∷ w.fares.now ∷ w.ledger.now ∷ []
 
 -- the numbers of a job are in their ranges, what is synced is a journal, days up to one are compared with another
--- fare file, and there is a journal to be replayed
+-- fare file, there is a journal to be replayed, and the staff of a service that stays have a port of their own
 abbrev pub IsJobInRange : Job → Type 0
 IsJobInRange (RunJob w) = has_journal (run_job w) ≡ true
 IsJobInRange (CheckJob w) = (has_against (check_job w) ≡ true) × IfSome w.after (λ day. (FIRST_DAY ≤ day) × (day ≤ LAST_DAY))
@@ -327,6 +364,8 @@ IsJobInRange (Replay w) = texts w.files.items ≢ []
 IsJobInRange (ServeJob w) = (1 ≤ w.port) × (1 ≤ w.lanes) × (w.lanes ≤ MOST_SERVED_LANES) × (last_port w.port w.lanes ≤ MOST_PORT)
     × (1 ≤ w.shards) × (w.shards ≤ MOST_SHARDS) × (1 ≤ w.sessions) × (w.sessions ≤ MOST_SESSIONS)
     × (FIRST_DAY ≤ w.close) × (w.close ≤ LAST_DAY)
+IsJobInRange (StayJob w) = (1 ≤ w.port) × (1 ≤ w.control) × (w.control ≢ w.port) × (1 ≤ w.lanes) × (w.lanes ≤ MOST_STAYING_LANES)
+    × (1 ≤ w.shards) × (w.shards ≤ MOST_SHARDS)
 IsJobInRange (AuditJob w) = ⊤
 IsJobInRange (Rebuild w) = ⊤
 
@@ -388,11 +427,11 @@ ReplayIsTaken words result = (name fares zone file : Text) (files : List Text) �
     → HasNoHyphen fares → HasNoHyphen zone → HaveNoHyphens (file ∷ files)
     → IsJobOrMemory (replay fares zone (file ∷ files)) result
 
--- two words with no hyphen before them, the five options that are needed, with numbers in their ranges, and
--- perhaps the other three, in whatever order, are those of `serve`
+-- two words with no hyphen before them, the options of one of the two forms, with numbers in their ranges, and
+-- perhaps others that this form may have, in whatever order, are those of `serve`
 abbrev pub ServeIsTaken : List Text → Result Job WordsFault → Type 0
 ServeIsTaken words result = (name : Text) (t : ServeTexts) (parts : List Part) → words ≡ name ∷ codes "serve" ∷ words_of_parts parts
-    → ArePartsOf t parts → StandApart parts → HasNoHyphen t.fares → HasNoHyphen t.zone → AreInRange t → has_ports (numbers_of t) ≡ true
+    → ArePartsOf t parts → StandApart parts → HasNoHyphen t.fares → HasNoHyphen t.zone → AreInRange t → is_whole (numbers_of t) ≡ true
     → IsJobOrMemory (serve (numbers_of t)) result
 
 -- two words with no hyphen before them, the journal that is needed, and perhaps a ledger, in whatever order, are
@@ -670,12 +709,20 @@ example = record {
   port = 9_000;
   lanes = 2;
   shards = 4;
-  sessions = 1;
-  close = 19_730;
+  sessions = Some 1;
+  close = Some 19_730;
+  control = None;
   journal = None;
   ledger = None;
   early = false;
 }
+
+-- the options that both forms need, and these words
+abbrev serve_words : List Text → List Text
+serve_words rest = codes "serve" ∷ codes "a" ∷ codes "b" ∷ codes "--port=9000" ∷ codes "--lanes=2" ∷ codes "--shards=4" ∷ rest
+
+abbrev files_words : List Text
+files_words = codes "--journal=j" ∷ codes "--ledger" ∷ codes "l" ∷ []
 
 abbrev options_row : List Text → List Text
 options_row rest = codes "--lanes" ∷ codes "2" ∷ codes "--shards=4" ∷ codes "--sessions" ∷ codes "1" ∷ codes "--close=19730" ∷ rest
@@ -752,6 +799,99 @@ lanes_16_row = refl
 serve_help_row : row (codes "serve" ∷ codes "--lanes" ∷ codes "15" ∷ codes "-h" ∷ []) ≡ help_asked
 unfolding chars
 serve_help_row = refl
+
+-- it needs a number of connections, and a day
+no_sessions_row : row (serve_words (codes "--close=19730" ∷ [])) ≡ usage
+unfolding chars
+no_sessions_row = refl
+
+no_close_row : row (serve_words (codes "--sessions=1" ∷ [])) ≡ usage
+unfolding chars
+no_close_row = refl
+
+-- or a port for its staff
+neither_row : row (serve_words files_words) ≡ usage
+unfolding chars
+neither_row = refl
+
+abbrev staying_example : Serve
+staying_example = record example { sessions = None; close = None; control = Some 9_100; journal = Some (codes "j"); ledger = Some (codes "l") }
+
+stay_row : row (serve_words (codes "--control" ∷ codes "9100" ∷ files_words)) ≡ serve staying_example
+unfolding chars
+stay_row = refl
+
+stay_early_row : row (serve_words (codes "--early" ∷ codes "--control=9100" ∷ files_words)) ≡ serve (record staying_example { early = true })
+unfolding chars
+stay_early_row = refl
+
+-- options before, between and after the values
+stay_mixed_row : row (codes "serve" ∷ codes "--ledger=l" ∷ codes "a" ∷ codes "--control=9100" ∷ codes "--shards=4" ∷ codes "b" ∷ codes "--lanes=2"
+    ∷ codes "--port=9000" ∷ codes "--journal=j" ∷ []) ≡ serve staying_example
+unfolding chars
+stay_mixed_row = refl
+
+-- its staff have a port of their own
+stay_same_port_row : row (serve_words (codes "--control=9000" ∷ files_words)) ≡ usage
+unfolding chars
+stay_same_port_row = refl
+
+-- all lanes are at one port, which may be the last
+stay_last_port_row : row (codes "serve" ∷ codes "a" ∷ codes "b" ∷ codes "--port=65535" ∷ codes "--lanes=2" ∷ codes "--shards=4" ∷ codes "--control=65534" ∷ files_words)
+    ≡ serve (record staying_example { port = 65_535; control = Some 65_534 })
+unfolding chars
+stay_last_port_row = refl
+
+-- 14 lanes leave one for them, and 15 none
+stay_14_lanes_row : row (codes "serve" ∷ codes "a" ∷ codes "b" ∷ codes "--port=9000" ∷ codes "--lanes=14" ∷ codes "--shards=4" ∷ codes "--control=9100" ∷ files_words)
+    ≡ serve (record staying_example { lanes = 14 })
+unfolding chars
+stay_14_lanes_row = refl
+
+stay_15_lanes_row : row (codes "serve" ∷ codes "a" ∷ codes "b" ∷ codes "--port=9000" ∷ codes "--lanes=15" ∷ codes "--shards=4" ∷ codes "--control=9100" ∷ files_words)
+    ≡ usage
+unfolding chars
+stay_15_lanes_row = refl
+
+-- it does not end after so many connections, and closes no day at its end
+stay_sessions_row : row (serve_words (codes "--control=9100" ∷ codes "--sessions=1" ∷ files_words)) ≡ usage
+unfolding chars
+stay_sessions_row = refl
+
+stay_close_row : row (serve_words (codes "--control=9100" ∷ codes "--close=19730" ∷ files_words)) ≡ usage
+unfolding chars
+stay_close_row = refl
+
+stay_both_row : row (serve_words (codes "--control=9100" ∷ codes "--sessions=1" ∷ codes "--close=19730" ∷ files_words)) ≡ usage
+unfolding chars
+stay_both_row = refl
+
+-- it has journals, and a ledger in a file
+stay_no_journal_row : row (serve_words (codes "--control=9100" ∷ codes "--ledger=l" ∷ [])) ≡ usage
+unfolding chars
+stay_no_journal_row = refl
+
+stay_no_ledger_row : row (serve_words (codes "--control=9100" ∷ codes "--journal=j" ∷ [])) ≡ usage
+unfolding chars
+stay_no_ledger_row = refl
+
+-- the port of the staff is in its range, and is given once
+control_0_row : row (serve_words (codes "--control=0" ∷ files_words)) ≡ usage
+unfolding chars
+control_0_row = refl
+
+control_beyond_row : row (serve_words (codes "--control=65536" ∷ files_words)) ≡ usage
+unfolding chars
+control_beyond_row = refl
+
+control_twice_row : row (serve_words (codes "--control=9100" ∷ codes "--control=9100" ∷ files_words)) ≡ usage
+unfolding chars
+control_twice_row = refl
+
+-- no other program has one
+control_of_run_row : row (codes "run" ∷ codes "a" ∷ codes "b" ∷ codes "--control=9100" ∷ []) ≡ usage
+unfolding chars
+control_of_run_row = refl
 
 abbrev plain_audit : Audit
 plain_audit = record { fares = codes "a"; zone = codes "b"; journal = codes "j"; ledger = None }

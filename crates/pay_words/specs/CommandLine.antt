@@ -84,16 +84,22 @@ statement_app = with_rule (with_rule (with_rule (with_fares_and_zone (new_app (c
 abbrev pub replay_app : App
 replay_app = with_rule (with_fares_and_zone (new_app (codes "replay"))) (required_words (codes "FILE"))
 
--- the options that `serve` needs
+-- the options that both forms of `serve` need
 abbrev pub with_numbers : App → App
-with_numbers app = with_rule (with_rule (with_rule (with_rule (with_rule app
+with_numbers app = with_rule (with_rule (with_rule app
     (required_option (codes "port") 1 MOST_PORT)) (required_option (codes "lanes") 1 MOST_SERVED_LANES))
-    (required_option (codes "shards") 1 MOST_SHARDS)) (required_option (codes "sessions") 1 MOST_SESSIONS))
-    (required_option (codes "close") FIRST_DAY LAST_DAY)
+    (required_option (codes "shards") 1 MOST_SHARDS)
 
--- `serve FARES ZONE --port P --lanes L --shards N --sessions K --close DAY [--journal FOLDER] [--ledger FILE] [--early]`
+-- and those of one form alone
+abbrev pub with_end : App → App
+with_end app = with_rule (with_rule (with_rule app
+    (optional_number (codes "sessions") 1 MOST_SESSIONS)) (optional_number (codes "close") FIRST_DAY LAST_DAY))
+    (optional_number (codes "control") 1 MOST_PORT)
+
+-- `serve FARES ZONE --port P --lanes L --shards N --sessions K --close DAY [--journal FOLDER] [--ledger FILE] [--early]`, and
+-- `serve FARES ZONE --port P --lanes L --shards N --control C --journal FOLDER --ledger FILE [--early]`
 abbrev pub serve_app : App
-serve_app = with_ledger (with_rule (with_numbers (with_fares_and_zone (new_app (codes "serve")))) (text_option (codes "journal")))
+serve_app = with_ledger (with_rule (with_end (with_numbers (with_fares_and_zone (new_app (codes "serve"))))) (text_option (codes "journal")))
 
 -- `audit FARES ZONE --journal PATH [--ledger FILE]`
 abbrev pub audit_app : App
@@ -185,8 +191,8 @@ HasFiles m files = option_map raw_values (matched_of (found_of m) (codes "FILE")
 abbrev pub HaveServeTexts : List Row → ServeTexts → Type 0
 HaveServeTexts rows t = (first_of (codes "FARES") rows ≡ Some t.fares) × (first_of (codes "ZONE") rows ≡ Some t.zone)
     × (one_of (codes "port") rows ≡ Some t.port) × (one_of (codes "lanes") rows ≡ Some t.lanes)
-    × (one_of (codes "shards") rows ≡ Some t.shards) × (one_of (codes "sessions") rows ≡ Some t.sessions)
-    × (one_of (codes "close") rows ≡ Some t.close)
+    × (one_of (codes "shards") rows ≡ Some t.shards) × (one_of (codes "sessions") rows ≡ t.sessions)
+    × (one_of (codes "close") rows ≡ t.close) × (one_of (codes "control") rows ≡ t.control)
     × (first_of (codes "journal") rows ≡ t.journal) × (first_of (codes "ledger") rows ≡ t.ledger)
     × (one_of (codes "early") rows ≡ Some (flag_text t.early))
 
@@ -199,8 +205,8 @@ GivesServe m s = (t : ServeTexts) × (rows : List Row) × (subcommand_rows_of m 
 abbrev pub HasServeTexts : Found → ServeTexts → Type 0
 HasServeTexts f t = (first_value f (codes "FARES") ≡ Some t.fares) × (first_value f (codes "ZONE") ≡ Some t.zone)
     × (one_text f (codes "port") ≡ Some t.port) × (one_text f (codes "lanes") ≡ Some t.lanes)
-    × (one_text f (codes "shards") ≡ Some t.shards) × (one_text f (codes "sessions") ≡ Some t.sessions)
-    × (one_text f (codes "close") ≡ Some t.close)
+    × (one_text f (codes "shards") ≡ Some t.shards) × (one_text f (codes "sessions") ≡ t.sessions)
+    × (one_text f (codes "close") ≡ t.close) × (one_text f (codes "control") ≡ t.control)
     × (first_value f (codes "journal") ≡ t.journal) × (first_value f (codes "ledger") ≡ t.ledger)
     × (one_text f (codes "early") ≡ Some (flag_text t.early))
 

@@ -30,6 +30,7 @@ pub data Setting : Type 0 where
   shards_option : Setting
   sessions_option : Setting
   close_option : Setting
+  control_option : Setting
   journal_option : Setting
   sync_option : Setting
   ledger_option : Setting
@@ -44,6 +45,7 @@ name_of lanes_option = codes "lanes"
 name_of shards_option = codes "shards"
 name_of sessions_option = codes "sessions"
 name_of close_option = codes "close"
+name_of control_option = codes "control"
 name_of journal_option = codes "journal"
 name_of sync_option = codes "sync"
 name_of ledger_option = codes "ledger"
@@ -58,6 +60,7 @@ is_flag lanes_option = false
 is_flag shards_option = false
 is_flag sessions_option = false
 is_flag close_option = false
+is_flag control_option = false
 is_flag journal_option = false
 is_flag sync_option = true
 is_flag ledger_option = false
@@ -80,6 +83,7 @@ reader_of lanes_option = is_lanes
 reader_of shards_option = is_shards
 reader_of sessions_option = is_sessions
 reader_of close_option = is_day
+reader_of control_option = is_port
 reader_of journal_option = any_text
 reader_of sync_option = is_flag_value
 reader_of ledger_option = any_text

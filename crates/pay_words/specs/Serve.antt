@@ -1,33 +1,35 @@
 -- What the words of `serve` say.
-use Rattle.std.specs.Prelude.{◌≡◌, ◌+◌, ◌-◌, ℕ, List, [], ◌∷◌, Bool, true, Option, nat_le}
-use Rattle.pay_words.specs.declared.limits.TheConstants.{MOST_PORT}
+use Rattle.std.specs.Prelude.{◌≡◌, ◌+◌, ◌-◌, ◌==◌, ◌&&◌, ℕ, List, [], ◌∷◌, Bool, true, not, Option, Some, None, IfSome, is_some, option_map, nat_le}
+use Rattle.pay_words.specs.declared.limits.TheConstants.{MOST_PORT, MOST_STAYING_LANES}
 use Rattle.pay_words.specs.OneWord.{Text, is_day, is_lanes, is_port, is_sessions, is_shards, number_of}
 use Rattle.pay_words.specs.Options.{AreParts, Grammar, Part, plain_words, values_of, fares_place, zone_place}
-use Rattle.pay_words.specs.Options.{port_option, lanes_option, shards_option, sessions_option, close_option, journal_option, ledger_option, early_option}
+use Rattle.pay_words.specs.Options.{port_option, lanes_option, shards_option, sessions_option, close_option, control_option, journal_option, ledger_option, early_option}
 use Rattle.pay_words.specs.Run.{flags, listed}
 
--- what `serve` is asked for
+-- what `serve` is asked for: a service that ends after so many connections, or one that stays
 pub record Serve : Type 0 where
   pub fares : Text
   pub zone : Text
   pub port : ℕ
   pub lanes : ℕ
   pub shards : ℕ
-  pub sessions : ℕ
-  pub close : ℕ
+  pub sessions : Option ℕ
+  pub close : Option ℕ
+  pub control : Option ℕ
   pub journal : Option Text
   pub ledger : Option Text
   pub early : Bool
 
--- the words that `serve` is given, one for each thing that it needs
+-- the words that `serve` is given
 pub record ServeTexts : Type 0 where
   pub fares : Text
   pub zone : Text
   pub port : Text
   pub lanes : Text
   pub shards : Text
-  pub sessions : Text
-  pub close : Text
+  pub sessions : Option Text
+  pub close : Option Text
+  pub control : Option Text
   pub journal : Option Text
   pub ledger : Option Text
   pub early : Bool
@@ -35,7 +37,7 @@ pub record ServeTexts : Type 0 where
 abbrev pub serve_grammar : Grammar
 serve_grammar = record {
   places = fares_place ∷ zone_place ∷ [];
-  options = port_option ∷ lanes_option ∷ shards_option ∷ sessions_option ∷ close_option ∷ journal_option ∷ ledger_option ∷ early_option ∷ [];
+  options = port_option ∷ lanes_option ∷ shards_option ∷ sessions_option ∷ close_option ∷ control_option ∷ journal_option ∷ ledger_option ∷ early_option ∷ [];
 }
 
 abbrev pub numbers_of : ServeTexts → Serve
@@ -45,27 +47,33 @@ numbers_of t = record {
   port = number_of t.port;
   lanes = number_of t.lanes;
   shards = number_of t.shards;
-  sessions = number_of t.sessions;
-  close = number_of t.close;
+  sessions = option_map number_of t.sessions;
+  close = option_map number_of t.close;
+  control = option_map number_of t.control;
   journal = t.journal;
   ledger = t.ledger;
   early = t.early;
 }
 
--- the numbers among the words of `serve` are in their ranges
+-- the numbers among the words of `serve` are in their ranges, where they are given
 abbrev pub AreInRange : ServeTexts → Type 0
 AreInRange t = (is_port t.port ≡ true) × (is_lanes t.lanes ≡ true) × (is_shards t.shards ≡ true)
-    × (is_sessions t.sessions ≡ true) × (is_day t.close ≡ true)
+    × IfSome t.sessions (λ word. is_sessions word ≡ true) × IfSome t.close (λ word. is_day word ≡ true)
+    × IfSome t.control (λ word. is_port word ≡ true)
 
--- these parts have each option that is needed once
+-- these parts have each option that both forms need once
 abbrev pub HaveNeeded : ServeTexts → List Part → Type 0
 HaveNeeded t parts = (values_of port_option parts ≡ t.port ∷ []) × (values_of lanes_option parts ≡ t.lanes ∷ [])
-    × (values_of shards_option parts ≡ t.shards ∷ []) × (values_of sessions_option parts ≡ t.sessions ∷ [])
-    × (values_of close_option parts ≡ t.close ∷ [])
+    × (values_of shards_option parts ≡ t.shards ∷ [])
 
--- these parts are two values, in order, each option that is needed once, and the others at most once
+-- these parts have each option of one form alone at most once
+abbrev pub HaveEnd : ServeTexts → List Part → Type 0
+HaveEnd t parts = (values_of sessions_option parts ≡ listed t.sessions) × (values_of close_option parts ≡ listed t.close)
+    × (values_of control_option parts ≡ listed t.control)
+
+-- these parts are two values, in order, each option that both forms need once, and the others at most once
 abbrev pub ArePartsOf : ServeTexts → List Part → Type 0
-ArePartsOf t parts = AreParts serve_grammar parts × (plain_words parts ≡ t.fares ∷ t.zone ∷ []) × HaveNeeded t parts
+ArePartsOf t parts = AreParts serve_grammar parts × (plain_words parts ≡ t.fares ∷ t.zone ∷ []) × HaveNeeded t parts × HaveEnd t parts
     × (values_of journal_option parts ≡ listed t.journal) × (values_of ledger_option parts ≡ listed t.ledger)
     × (values_of early_option parts ≡ flags t.early)
 
@@ -75,3 +83,27 @@ last_port port lanes = port + lanes - 1
 
 abbrev pub has_ports : Serve → Bool
 has_ports s = nat_le (last_port s.port s.lanes) MOST_PORT
+
+-- a service that ends serves so many connections, closes a day, and has a port for each lane
+abbrev pub may_end : Serve → Bool
+may_end s = is_some s.sessions && (is_some s.close && has_ports s)
+
+-- it has no number of connections, and no day that is closed at its end
+abbrev pub has_no_end : Serve → Bool
+has_no_end s = not (is_some s.sessions) && not (is_some s.close)
+
+-- its staff have another port, and a lane is left for them
+abbrev pub leaves_room : ℕ → Serve → Bool
+leaves_room control s = not (control == s.port) && nat_le s.lanes MOST_STAYING_LANES
+
+-- a service that stays has no end, leaves room for its staff, and has journals and a ledger in a file
+abbrev pub may_stay : ℕ → Serve → Bool
+may_stay control s = (has_no_end s && leaves_room control s) && (is_some s.journal && is_some s.ledger)
+
+abbrev pub is_whole_by : Option ℕ → Serve → Bool
+is_whole_by None s = may_end s
+is_whole_by (Some control) s = may_stay control s
+
+-- what is asked for is one of the two: it stays where it has a port for its staff
+abbrev pub is_whole : Serve → Bool
+is_whole s = is_whole_by s.control s

@@ -21,8 +21,9 @@ Read journals, and print how many lines and accounts they have, with the first a
 instant, or the first bad line";
 
 /// What `serve` does.
-pub const SERVE: &str =
-    "Read taps and corrections from the connections of several lanes, and then close a day";
+pub const SERVE: &str = "\
+Read taps and corrections from the connections of several lanes. Close a day after so
+many connections, or stay, and close days when staff say so";
 
 /// What `audit` does.
 pub const AUDIT: &str = "\
@@ -107,35 +108,45 @@ last day that has a tap: today, if a service runs. A number from 4 to 50000";
 /// What the option `--port` is.
 pub const PORT: &str = "\
 The port of the first lane, from 1 to 65535. Each further lane has the
-next port, and none is above 65535";
+next port, and none is above 65535. With --control, the port of all lanes";
 
 /// What the option `--lanes` is.
-pub const LANES: &str = "How many lanes there are, from 1 to 15";
+pub const LANES: &str = "\
+How many lanes there are, from 1 to 15; with --control, from 1 to 14";
 
 /// What the option `--shards` is.
 pub const SHARDS: &str = "How many shards the accounts are spread over, from 1 to 16";
 
 /// What the option `--sessions` is.
-pub const SESSIONS: &str = "How many connections each lane serves, from 1 to 1000";
+pub const SESSIONS: &str = "\
+For a service that ends: how many connections each lane serves, from 1 to
+1000";
 
 /// What the option `--close` is.
 pub const CLOSE: &str = "\
-The service day that is closed at the end, counted from 1970-01-01: a
-number from 4 to 50000";
+For a service that ends: the service day that is closed at its end, a
+number from 4 to 50000, counted from 1970-01-01";
+
+/// What the option `--control` is.
+pub const CONTROL: &str = "\
+For a service that stays: the port for its staff, from 1 to 65535, and not
+P. It needs --journal and --ledger, and takes no --sessions and no --close";
 
 /// What stands below the program's own help.
 pub const BELOW_PROGRAM: &str = "\
 Words of run (FARES ZONE), of check (FARES), of statement (FARES ZONE ACCOUNT DAY), of replay
-(FARES ZONE FILE..), of serve (FARES ZONE --port P --lanes L --shards N --sessions K --close DAY),
-of audit (FARES ZONE --journal PATH) and of rebuild (FARES LEDGER), with options in any order:
+(FARES ZONE FILE..), of serve (FARES ZONE --port P --lanes L --shards N --sessions K --close DAY, or
+FARES ZONE --port P --lanes L --shards N --control C --journal FOLDER --ledger FILE), of audit
+(FARES ZONE --journal PATH) and of rebuild (FARES LEDGER), with options in any order:
   FARES    the fare file, a TOML document, which may hold editions, fares that hold from a day on
   ZONE     the time zone, a POSIX rule text (a name such as Europe/London is none)
   ACCOUNT  the account, a number from 1 to 4294967295
   DAY      a service day, counted from 1970-01-01: of the week, or the one that is closed
-  P        the port of the first lane; each further lane has the next port
-  L        how many lanes there are, from 1 to 15
+  P        the port of the first lane, each further lane has the next port; with C, of all lanes
+  L        how many lanes there are, from 1 to 15; with C, from 1 to 14
   N        how many shards the accounts are spread over, from 1 to 16
-  K        how many connections each lane serves, from 1 to 1000
+  K        how many connections each lane serves, from 1 to 1000; then the service ends
+  C        the port for staff, who close days and end the service
   FILE     a journal, which run or serve wrote
   PATH     a journal, or a folder of journals, which is only read
   LEDGER   the SQLite file that days were closed into
@@ -232,18 +243,31 @@ The lines, the journal and the faults are described in docs/FORMATS.md.";
 
 /// What stands below the help of `serve`.
 pub const BELOW_SERVE: &str = "\
-Lane l, from 0 to L - 1, listens on port P + l of 127.0.0.1 and serves K connections, one after
-another, in a thread of its own. On a connection lines come in, and the reply to each goes out; a
-CLOSE is refused by 34. The accounts are spread over N shards, each in a thread of its own. When
+A service has one of two forms. With --sessions K and --close DAY it ends: each lane serves K
+connections, and then DAY is closed. With --control C it stays until its staff stop it. All ports
+are of 127.0.0.1 alone. On a connection lines come in, and the reply to each goes out. Each lane
+serves its connections one after another, in a thread of its own. The accounts are spread over N
+shards, each in a thread of its own. With --journal FOLDER the lines that were accepted before are
+taken first.
+
+A service that ends: lane l, from 0 to L - 1, listens on port P + l. A CLOSE is refused by 34. When
 all connections of all lanes have ended, DAY is closed, the lines of that close are printed, and
-the program ends. With --journal FOLDER the lines that were accepted before are taken first, and
-with --ledger FILE the day is closed into a file, if it is over by this machine's clock or --early
-is given. With --journal and without --ledger it is not closed: its refusal by 34 is printed, and
-the status is 1. Without --ledger, --early does nothing.
+the program ends. With --ledger FILE the day is closed into a file, if it is over by this machine's
+clock or --early is given. With --journal and without --ledger it is not closed: its refusal by 34
+is printed, and the status is 1. Without --ledger, --early does nothing.
 
 Example: two lanes, on ports 9000 and 9001, serve a connection each, and day 19730 is closed.
   $ farebox serve examples/bus.toml GMT0BST,M3.5.0/1,M10.5.0 --port 9000 --lanes 2 --shards 4 \\
       --sessions 1 --close 19730
+
+A service that stays: all lanes listen on port P, and each serves one connection after another.
+Port C is for staff. CLOSE and FIX are taken there, and STOP, which ends the service; at P, CLOSE
+and FIX are refused by 34. --journal FOLDER and --ledger FILE have to be given: days are closed into
+that file, if they are over by this machine's clock or --early is given.
+
+Example: two lanes serve port 9000, and staff close days at port 9100.
+  $ farebox serve FARES ZONE --port 9000 --lanes 2 --shards 4 --control 9100 \\
+      --journal taps --ledger fares.db
 
 Statuses:
   0  all right

@@ -7,5 +7,5 @@ mod words;
 
 pub use words::{
     AuditWords, CheckWords, Job, RebuildWords, ReplayWords, RunWords, ServeWords, StatementWords,
-    WordsFault, read_words,
+    StayWords, WordsFault, read_words,
 };

@@ -15,6 +15,10 @@ pub const MOST_PORT: u64 = 65_535;
 /// The greatest number of lanes that a service has ports for. The least is 1.
 pub const MOST_SERVED_LANES: u64 = 15;
 
+/// The greatest number of lanes at the port of a service that stays, where one lane more is that of its staff. The
+/// least is 1.
+pub const MOST_STAYING_LANES: u64 = 14;
+
 /// The greatest number of shards. The least is 1.
 pub const MOST_SHARDS: u64 = 16;
 

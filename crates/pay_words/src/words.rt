@@ -1,6 +1,6 @@
 //! The words that the program is started with, and the job that they ask for.
 ghost use Rattle.std.specs.Prelude.{◌≡◌, ℕ, ◌<◌, ◌≤◌, Bool, true, false, codes, drop, List};
-ghost use Rattle.std.specs.Prelude.{IfOk, IfErr, IsSomeAnd};
+ghost use Rattle.std.specs.Prelude.{IfOk, IfErr, IsSomeAnd, None, Some};
 ghost use Rattle.clap.specs.Walk.{texts};
 ghost use Rattle.clap.specs.Words.{app_of, first_value, found_of, kind_of, one_text};
 ghost use Rattle.clap.specs.declared.builder.command.Command.TheViews.{out-Command as fields_of};
@@ -9,18 +9,18 @@ ghost use Rattle.pay_words.specs.CommandLine.{HasAudit, HasCheckTexts, HasFaresA
 ghost use Rattle.pay_words.specs.CommandLine.{IsFaultOfKind, IsHelpOrMemory, IsVersionOrMemory, flag_text};
 ghost use Rattle.pay_words.specs.CommandLine.{audit_app, check_app, farebox_app, rebuild_app, replay_app, run_app, serve_app, statement_app};
 ghost use Rattle.pay_words.specs.CommandLine.{flag_option, optional_number, required_number, required_option, required_text, required_word};
-ghost use Rattle.pay_words.specs.CommandLine.{required_words, text_option, with_against, with_fares_and_zone, with_ledger, with_numbers};
+ghost use Rattle.pay_words.specs.CommandLine.{required_words, text_option, with_against, with_end, with_fares_and_zone, with_ledger, with_numbers};
 ghost use Rattle.clap.specs.Words.{App, with_rule, with_subcommand};
 ghost use Rattle.clap.specs.ValueTests.{is_unsigned_in};
 ghost use Rattle.clap.specs.Walk.{rule_of};
 ghost use Rattle.pay_words.specs.Asked.{IsFaultOf, Text, asked, job_asked, AreJobWords, IsJob, IsJobInRange};
 ghost use Rattle.pay_words.specs.Asked.{RunIsTaken, CheckIsTaken, StatementIsTaken, ReplayIsTaken, ServeIsTaken, AuditIsTaken, RebuildIsTaken};
-ghost use Rattle.pay_words.specs.Asked.{IsAnswer, IsJobOrMemory, allowed, audit_job, check_job, run_job, served_job, statement_job};
+ghost use Rattle.pay_words.specs.Asked.{IsAnswer, IsJobOrMemory, allowed, audit_job, check_job, run_job, served_job, service_values, statement_job};
 ghost use Rattle.pay_words.specs.OneWord.{is_port};
 ghost use Rattle.pay_words.specs.Audit.{Audit};
 ghost use Rattle.pay_words.specs.Check.{Check, CheckTexts, HasAfterInRange, check_of_texts, has_against};
 ghost use Rattle.pay_words.specs.Run.{Run, has_journal};
-ghost use Rattle.pay_words.specs.Serve.{AreInRange, Serve, ServeTexts, has_ports, numbers_of};
+ghost use Rattle.pay_words.specs.Serve.{AreInRange, Serve, ServeTexts, has_no_end, has_ports, leaves_room, numbers_of};
 ghost use Rattle.pay_words.specs.Statement.{HasNumbersInRange, Statement, StatementTexts, statement_of_texts};
 ghost use Rattle.pay_words.specs.Asked.{check as check_asked, run as run_asked, without_dashes};
 ghost use Rattle.pay_words.specs.Asked.{audit as audit_asked, rebuild as rebuild_asked};
@@ -30,6 +30,7 @@ ghost use Rattle.pay_words.specs.declared.words.WordsFault.TheVariants.{Memory};
 use crate::help;
 use crate::limits::{
     FIRST_DAY, LAST_DAY, MOST_ACCOUNT, MOST_PORT, MOST_SERVED_LANES, MOST_SESSIONS, MOST_SHARDS,
+    MOST_STAYING_LANES,
 };
 use clap::builder::ValueParser;
 use clap::error::ErrorKind;
@@ -56,6 +57,9 @@ pub enum Job<'a> {
     /// `serve FARES ZONE --port P --lanes L --shards N --sessions K --close DAY` and the options that may be
     /// left out: sessions of several lanes at once, and the close of a day when all of them have ended.
     Serve(ServeWords<'a>),
+    /// `serve FARES ZONE --port P --lanes L --shards N --control C --journal FOLDER --ledger FILE` and the option
+    /// that may be left out: a service that stays, where a port for staff closes days and ends it.
+    Stay(StayWords<'a>),
     /// `audit FARES ZONE --journal PATH` and its option: whether a journal, what is kept beside it and a ledger
     /// belong together.
     Audit(AuditWords<'a>),
@@ -147,6 +151,46 @@ pub struct ServeWords<'a> {
     pub early: bool,
 }
 
+/// The values of `serve FARES ZONE --port P --lanes L --shards N --control C --journal FOLDER --ledger FILE
+/// [--early]`.
+#[derive(Clone, Copy)]
+pub struct StayWords<'a> {
+    /// The path of the fare file.
+    pub fares: &'a str,
+    /// The text of the time zone, a POSIX rule.
+    pub zone: &'a str,
+    /// The port that all lanes serve.
+    pub port: u16,
+    /// How many lanes there are: 1 to 14. One lane more is that of the staff.
+    pub lanes: u8,
+    /// How many shards the accounts are spread over: 1 to 16.
+    pub shards: u8,
+    /// The port of the staff, another than `port`.
+    pub control: u16,
+    /// The path of the folder of the shards' journals.
+    pub journal: &'a str,
+    /// The path of the SQLite file that days are closed into.
+    pub ledger: &'a str,
+    /// Whether a day is closed into that file also where it is not over yet.
+    pub early: bool,
+}
+
+/// The values of `serve`, of either form or of none.
+#[derive(Clone, Copy)]
+struct Service<'a> {
+    fares: &'a str,
+    zone: &'a str,
+    port: u16,
+    lanes: u8,
+    shards: u8,
+    sessions: Option<u32>,
+    close: Option<u32>,
+    control: Option<u16>,
+    journal: Option<&'a str>,
+    ledger: Option<&'a str>,
+    early: bool,
+}
+
 /// The values of `audit FARES ZONE --journal PATH [--ledger FILE]`.
 #[derive(Clone, Copy)]
 pub struct AuditWords<'a> {
@@ -201,7 +245,9 @@ impl From<AllocError> for WordsFault {
 /// stands after an equals sign in the same; `--sync`, `--early` and `--lint` have none. `--sync` is taken with
 /// `--journal` alone, and `--after` with `--against`. Each is given once, before, between or after the other values.
 /// `--` says that each word after it is a value. Numbers are decimal digits, which may have a plus and zeros
-/// before them; one outside its range is refused as `Usage`, and so are lanes with a port above 65,535.
+/// before them; one outside its range is refused as `Usage`, and so are lanes with a port above 65,535. With
+/// `--control` a service stays. It then has no `--sessions` and no `--close`, at most 14 lanes, a journal and
+/// a ledger, and another port for its staff; without it, it has both `--sessions` and `--close`.
 pub fn read_words<'a>(alloc: Global, words: &'a [&'a str]) -> Result<Job<'a>, WordsFault>
     ensures job { IfOk result (λ job. asked (texts words.entry.now) ≡ job_asked job) }
     ensures refused { IfErr result (IsFaultOf (asked (texts words.entry.now))) }
@@ -228,8 +274,8 @@ pub fn read_words<'a>(alloc: Global, words: &'a [&'a str]) -> Result<Job<'a>, Wo
     // Three words or more with no hyphen before them are the values of `replay`.
     ensures replay { ReplayIsTaken (texts words.entry.now) result }
 
-    // Two words with no hyphen before them, five options with numbers in their ranges, and perhaps three others, in
-    // any order, are the values of `serve`, where each lane has a port.
+    // Two words with no hyphen before them and options, in any order, with numbers in their ranges, are the values of
+    // `serve`, where they are those of a service that ends, and each lane has a port, or of one that stays.
     ensures serve { ServeIsTaken (texts words.entry.now) result }
 
     // Two words with no hyphen before them, a journal, and perhaps a ledger, in any order, are the values of `audit`.
@@ -391,7 +437,8 @@ fn serve_command<'a>(alloc: Global) -> Result<Command<'a>, AllocError>
     let command = Command::new(alloc, "serve")
         .about(help::SERVE)
         .after_help(help::BELOW_SERVE);
-    let kept = with_numbers(alloc, with_fares_and_zone(alloc, command)?)?.arg(text_option(
+    let numbered = with_numbers(alloc, with_fares_and_zone(alloc, command)?)?;
+    let kept = with_end(alloc, numbered)?.arg(text_option(
         alloc,
         "journal",
         "FOLDER",
@@ -428,7 +475,7 @@ fn rebuild_command<'a>(alloc: Global) -> Result<Command<'a>, AllocError>
     )
 }
 
-/// A command with the options that `serve` needs, after the words that it has.
+/// A command with the options that both forms of `serve` need, after the words that it has.
 fn with_numbers<'a>(alloc: Global, command: Command<'a>) -> Result<Command<'a>, AllocError>
     requires { (fields_of command).has_globals ≡ false }
     ensures app { IfOk result (λ r. app_of r ≡ with_numbers (app_of command.entry)) }
@@ -437,9 +484,21 @@ fn with_numbers<'a>(alloc: Global, command: Command<'a>) -> Result<Command<'a>, 
     command
         .arg(number_option(alloc, "port", "P", help::PORT, 1, MOST_PORT))?
         .arg(number_option(alloc, "lanes", "L", help::LANES, 1, MOST_SERVED_LANES))?
-        .arg(number_option(alloc, "shards", "N", help::SHARDS, 1, MOST_SHARDS))?
-        .arg(number_option(alloc, "sessions", "K", help::SESSIONS, 1, MOST_SESSIONS))?
-        .arg(number_option(alloc, "close", "DAY", help::CLOSE, FIRST_DAY, LAST_DAY))
+        .arg(number_option(alloc, "shards", "N", help::SHARDS, 1, MOST_SHARDS))
+}
+
+/// A command with the options of one form of `serve` alone, after the words that it has.
+fn with_end<'a>(alloc: Global, command: Command<'a>) -> Result<Command<'a>, AllocError>
+    requires { (fields_of command).has_globals ≡ false }
+    ensures app { IfOk result (λ r. app_of r ≡ with_end (app_of command.entry)) }
+    ensures local { IfOk result (λ r. (fields_of r).has_globals ≡ false) }
+{
+    let ended = with_two(
+        command,
+        optional_number(alloc, "sessions", "K", help::SESSIONS, 1, MOST_SESSIONS),
+        optional_number(alloc, "close", "DAY", help::CLOSE, FIRST_DAY, LAST_DAY),
+    )?;
+    ended.arg(optional_number(alloc, "control", "C", help::CONTROL, 1, MOST_PORT))
 }
 
 /// A word that has to be there.
@@ -695,12 +754,82 @@ fn serve_job<'a>(serve: &ArgMatches<'a>) -> Result<Job<'a>, WordsFault>
         → IsAnswer (allowed (serve_asked (numbers_of t))) result }
 {
     match serve_words(serve) {
-        Some(words) => job_with_ports(words),
+        Some(words) => service_job(words),
         None => Err(WordsFault::Usage),
     }
 }
 
-/// The job of `serve`, where there is a port for each lane.
+/// The job of `serve`, of the form that has a port for staff or of the other.
+fn service_job(words: Service<'_>) -> Result<Job<'_>, WordsFault>
+    ensures { IsAnswer (allowed (serve_asked (service_values words.entry))) result }
+{
+    match words.control {
+        Some(control) => staying_job(words, control),
+        None => ending_job(words),
+    }
+}
+
+/// The job of a service that ends, where it has a number of connections and a day.
+fn ending_job(words: Service<'_>) -> Result<Job<'_>, WordsFault>
+    requires { words.control ≡ None }
+    ensures { IsAnswer (allowed (serve_asked (service_values words.entry))) result }
+{
+    match (words.sessions, words.close) {
+        (Some(sessions), Some(close)) => job_with_ports(ServeWords {
+            fares: words.fares,
+            zone: words.zone,
+            port: words.port,
+            lanes: words.lanes,
+            shards: words.shards,
+            sessions,
+            close,
+            journal: words.journal,
+            ledger: words.ledger,
+            early: words.early,
+        }),
+        _ => Err(WordsFault::Usage),
+    }
+}
+
+/// The job of a service that stays, where it has journals and a ledger, no end, a lane left for its staff, and
+/// another port for them.
+fn staying_job(words: Service<'_>, control: u16) -> Result<Job<'_>, WordsFault>
+    requires { words.control ≡ Some control }
+    ensures { IsAnswer (allowed (serve_asked (service_values words.entry))) result }
+{
+    match (words.journal, words.ledger) {
+        (Some(journal), Some(ledger)) if has_no_end(&words) && leaves_room(&words, control) => {
+            Ok(Job::Stay(StayWords {
+                fares: words.fares,
+                zone: words.zone,
+                port: words.port,
+                lanes: words.lanes,
+                shards: words.shards,
+                control,
+                journal,
+                ledger,
+                early: words.early,
+            }))
+        }
+        _ => Err(WordsFault::Usage),
+    }
+}
+
+/// Whether there is no number of connections, and no day that is closed at the end.
+fn has_no_end(words: &Service<'_>) -> bool
+    ensures { result ≡ has_no_end (service_values words.now) }
+{
+    words.sessions.is_none() && words.close.is_none()
+}
+
+/// Whether a lane is left for the staff, and the port is another than that of the lanes.
+fn leaves_room(words: &Service<'_>, control: u16) -> bool
+    ensures { result ≡ leaves_room control (service_values words.now) }
+{
+    control != words.port && u64::from(words.lanes) <= MOST_STAYING_LANES
+}
+
+/// The job of a service that ends, where there is a port for each lane.
 fn job_with_ports(words: ServeWords<'_>) -> Result<Job<'_>, WordsFault>
     ensures { IsAnswer (allowed (serve_asked (served_job words.entry))) result }
 {
@@ -718,18 +847,19 @@ fn has_ports(words: &ServeWords<'_>) -> bool
     (u64::from(words.port) + u64::from(words.lanes)).saturating_sub(1) <= MOST_PORT
 }
 
-fn serve_words<'a>(serve: &ArgMatches<'a>) -> Option<ServeWords<'a>>
+fn serve_words<'a>(serve: &ArgMatches<'a>) -> Option<Service<'a>>
     ensures { (t : ServeTexts) → HasServeTexts (found_of serve.now) t → AreInRange t
-        → IsSomeAnd result (λ words. served_job words ≡ numbers_of t) }
+        → IsSomeAnd result (λ words. service_values words ≡ numbers_of t) }
 {
-    Some(ServeWords {
+    Some(Service {
         fares: serve.get_str("FARES")?,
         zone: serve.get_str("ZONE")?,
-        port: port_of(serve)?,
+        port: port_of(serve, "port")?,
         lanes: count_of(serve, "lanes")?,
         shards: count_of(serve, "shards")?,
-        sessions: number_of(serve, "sessions")?,
-        close: number_of(serve, "close")?,
+        sessions: number_of(serve, "sessions"),
+        close: number_of(serve, "close"),
+        control: port_of(serve, "control"),
         journal: serve.get_str("journal"),
         ledger: serve.get_str("ledger"),
         early: is_flagged(serve, "early"),
@@ -766,12 +896,13 @@ fn rebuild_job<'a>(rebuild: &ArgMatches<'a>) -> Result<Job<'a>, WordsFault>
     }
 }
 
-/// The port, of the numbers that the matches have.
-fn port_of(serve: &ArgMatches<'_>) -> Option<u16>
-    ensures { (word : Text) → one_text (found_of serve.now) (codes "port") ≡ Some word
+/// The port of this name, of the numbers that the matches have.
+fn port_of(serve: &ArgMatches<'_>, name: &str) -> Option<u16>
+    ensures none { one_text (found_of serve.now) name.now ≡ None → result ≡ None }
+    ensures value { (word : Text) → one_text (found_of serve.now) name.now ≡ Some word
         → is_port word ≡ true → result ≡ Some (number_of word) }
 {
-    serve.get_one("port")
+    serve.get_one(name)
 }
 
 /// The number of this name, of those that the matches have, where it is below 256.

@@ -11,10 +11,8 @@ pub returns-clause-app : goal.returns-clause-app
 returns-clause-app c =
     let one = c.in_ok-arg.ensures.shape c.number_option.ensures.local ∙ ap (with_rule (app_of c.args.command)) c.number_option.ensures.rule in
     let two = c.in_ok-arg-2.ensures.shape c.number_option-2.ensures.local ∙ ap₂ with_rule one c.number_option-2.ensures.rule in
-    let three = c.in_ok-arg-3.ensures.shape c.number_option-3.ensures.local ∙ ap₂ with_rule two c.number_option-3.ensures.rule in
-    let four = c.in_ok-arg-4.ensures.shape c.number_option-4.ensures.local ∙ ap₂ with_rule three c.number_option-4.ensures.rule in
-    IfOk-weaker c.arg-5.result (AddsArg c.in_ok-arg-4.field-0 c.number_option-5.result) (λ r. app_of r ≡ with_numbers (app_of c.args.command))
-    (λ r adds. adds.shape c.number_option-5.ensures.local ∙ ap₂ with_rule four c.number_option-5.ensures.rule) c.arg-5.ensures
+    IfOk-weaker c.arg-3.result (AddsArg c.in_ok-arg-2.field-0 c.number_option-3.result) (λ r. app_of r ≡ with_numbers (app_of c.args.command))
+    (λ r adds. adds.shape c.number_option-3.ensures.local ∙ ap₂ with_rule two c.number_option-3.ensures.rule) c.arg-3.ensures
 
 local_still : (old new : Command) (a : Arg) → AddsArg old a new → (fields_of old).has_globals ≡ false → a.global ≡ false → (fields_of new).has_globals ≡ false
 local_still old new a adds h g = adds.globals ∙ ap₂ (λ (x y : Bool). x || y) h g
@@ -23,7 +21,5 @@ pub returns-clause-local : goal.returns-clause-local
 returns-clause-local c =
     let one = local_still _ _ _ c.in_ok-arg.ensures c.requires c.number_option.ensures.local in
     let two = local_still _ _ _ c.in_ok-arg-2.ensures one c.number_option-2.ensures.local in
-    let three = local_still _ _ _ c.in_ok-arg-3.ensures two c.number_option-3.ensures.local in
-    let four = local_still _ _ _ c.in_ok-arg-4.ensures three c.number_option-4.ensures.local in
-    IfOk-weaker c.arg-5.result (AddsArg c.in_ok-arg-4.field-0 c.number_option-5.result) (λ r. (fields_of r).has_globals ≡ false)
-    (λ r adds. local_still _ r _ adds four c.number_option-5.ensures.local) c.arg-5.ensures
+    IfOk-weaker c.arg-3.result (AddsArg c.in_ok-arg-2.field-0 c.number_option-3.result) (λ r. (fields_of r).has_globals ≡ false)
+    (λ r adds. local_still _ r _ adds two c.number_option-3.ensures.local) c.arg-3.ensures
