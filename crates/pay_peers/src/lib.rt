@@ -1,13 +1,17 @@
 //! Many connections over one lane: [`Ready`] is a place at one port, whose connections are held as long as their peers like, and
-//! [`Control`] is one for staff, where days are closed and the service is stopped. It waits until
-//! some have something to read, takes a few pieces of each in turn, answers the lines that end in them, and keeps the rest with the
-//! connection. `limits` says how many it holds, and how it divides its time.
+//! [`Control`] is one for staff, where days are closed, and who may stop the service. A lane waits until some
+//! have something to read, takes a few pieces of each in turn, answers the lines that end in them, and keeps the rest with the
+//! connection. `limits` says how many connections it holds, and how a lane
+//! divides its time.
 #![tactic(auto)]
 
+mod fate;
 pub mod limits;
 mod peer;
 mod peers;
 mod ready;
+mod sending;
+mod serving;
 mod word;
 
 pub use ready::{Control, Ports, Ready};

@@ -14,7 +14,11 @@ pub const TURN_PIECES: u32 = 4;
 pub const TURN_SENDS: u32 = 64;
 /// How long it waits at most, in milliseconds, before it looks whether it is told to stop.
 pub const LONGEST_WAIT: u64 = 50;
+/// How often in a row it may fail to wait before the service ends.
+pub const MOST_FAILURES: u32 = 16;
 /// How many bytes of replies may wait to be sent on one before no more of its lines are taken.
 pub const MOST_UNSENT: usize = 65_536;
+/// How many bytes of room for replies one keeps once all have left.
+pub const KEPT_ROOM: usize = 4_096;
 /// How often it takes what a peer still sends on one that is over.
 pub const LAST_READS: u32 = 256;

@@ -1,48 +1,40 @@
 //! A connection that is held.
-ghost use Rattle.std.specs.Prelude.{◌≡◌};
+ghost use Rattle.std.specs.Prelude.{◌≡◌, ◌≢◌, ◌<◌, ◌++◌, IsTrue, false, [], length, OnOk, IfOk, IfSome};
 ghost use Rattle.pay_session.specs.Words.{AreAskedAt};
+ghost use Rattle.pay_session.specs.declared.port.Role.TheVariants as roles;
+ghost use Rattle.pay_peers.specs.Fates.{word_in};
+ghost use Rattle.pay_peers.specs.Lines.{IsTaken};
+ghost use Rattle.pay_peers.specs.declared.word.Word.{Word};
 
-use crate::limits::{LAST_READS, MOST_UNSENT, TURN_PIECES, TURN_SENDS};
-use crate::word::Word;
+use crate::fate::{Fate, fate_of};
+use crate::limits::{LAST_READS, MOST_UNSENT, TURN_PIECES};
+use crate::sending::{empty, send};
+use crate::word::{Begun, Word};
 use mio::net::TcpStream;
-use pay_session::{Conversation, Port, Role, cut};
+use pay_session::{Conversation, Port, cut};
 use pay_shard::Desk;
 use pay_till::Till;
 use pay_wire::WriteFault;
 use std::alloc::Global;
-use std::io;
-use std::io::{ErrorKind, Read, Write};
+use std::io::{ErrorKind, Read};
 use std::net::Shutdown;
-
-/// What becomes of a connection after its turn.
-#[derive(Clone, Copy, Debug, PartialEq, Eq)]
-pub enum Fate {
-    /// It waits until there is more to read, or room to write.
-    Waits,
-    /// It may go on at once.
-    GoesOn,
-    /// It is over.
-    Ends,
-}
 
 /// A connection, what was begun on it, and what was written on it and has not left.
 #[derive(Drop)]
 pub struct Peer {
-    pub stream: TcpStream,
+    stream: TcpStream,
     conversation: Conversation,
+    // What the conversation was given of a line that has not ended, as far as it may be a word of staff.
+    begun: Begun,
     unsent: Vec<u8>,
     // How many bytes of these have left.
     sent: usize,
-    // Whether a line was a command.
+    // Whether a line was answered.
     known: bool,
-    // What was read of a line that may be the word that stops the service.
-    word: Word,
-    // What was read and not taken yet, since so much is to be sent.
+    // What was read and not taken yet.
     pending: Vec<u8>,
-    // Whether it has a further turn already.
+    // Whether it has a turn to come.
     pub queued: bool,
-    // Whether it asked for the service to stop.
-    stops: bool,
     // Whether no more lines are taken, and whether the peer knows.
     over: bool,
     told: bool,
@@ -55,155 +47,170 @@ fn is_no_command(reply: &[u8]) -> bool {
     reply.starts_with(b"NO 50") || reply.starts_with(b"NO 51")
 }
 
+/// What becomes of a connection by lines that were taken.
+fn fate_after(taken: Result<Option<Word>, WriteFault>) -> Fate
+    ensures { result ≢ Fate.Ends → taken ≡ Ok (word_in result) }
+{
+    match taken {
+        Ok(None) => Fate::GoesOn,
+        Ok(Some(word)) => Fate::Asks(word),
+        Err(_) => Fate::Ends,
+    }
+}
+
 impl Peer {
     /// A connection on which nothing was read or written.
     pub fn new(alloc: Global, stream: TcpStream) -> Peer {
         Peer {
             stream,
             conversation: Conversation::new(),
+            begun: Begun::new(),
             unsent: Vec::new(alloc),
             sent: 0,
             known: false,
-            word: Word::new(),
             pending: Vec::new(alloc),
             queued: false,
-            stops: false,
             over: false,
             told: false,
             last_reads: LAST_READS,
         }
     }
 
-    /// Tries once to send what has not left. `GoesOn` where some of it has, and `Ends` where there is none.
-    fn send_once(&mut self) -> io::Result<Fate> {
-        let Some(rest) = self.unsent.get(self.sent..) else {
-            return Ok(Fate::Ends);
+    /// Sends what has not left, as far as there is room. Where it goes on, all has left, or there may be room at once.
+    fn send(&mut self) -> Fate
+        ensures no_word { (word : Word) → result ≡ Fate.Asks word → ⊥ }
+    {
+        send(&mut &self.stream, &mut self.unsent, &mut self.sent)
+    }
+
+    /// Says a line to the peer that is no reply of the session.
+    pub fn say(&mut self, line: &[u8]) -> Option<()> {
+        self.unsent.extend_from_slice(line).ok()
+    }
+
+    /// Says that the service ends. No more lines are taken.
+    pub fn say_bye(&mut self) -> Option<()> {
+        self.over = true;
+        self.say(b"BYE\n")
+    }
+
+    /// Looks at the reply that stands behind so many bytes, if one does. Where the first line is no command, no more are taken, since the
+    /// peer speaks another protocol.
+    fn note_reply(&mut self, before: usize)
+        ensures begun { self.new.begun ≡ self.old.begun }
+        ensures pending { self.new.pending.items ≡ self.old.pending.items }
+    {
+        let reply = match self.unsent.get(before..) {
+            Some(reply) if !reply.is_empty() => reply,
+            _ => return,
         };
-        if rest.is_empty() {
-            return Ok(Fate::Ends);
-        }
-        match (&self.stream).write(rest) {
-            Ok(0) => Err(io::Error::from(ErrorKind::WriteZero)),
-            Ok(count) => {
-                self.sent = self.sent.saturating_add(count);
-                Ok(Fate::GoesOn)
-            }
-            Err(error) => match error.kind() {
-                ErrorKind::WouldBlock => Ok(Fate::Waits),
-                ErrorKind::Interrupted => Ok(Fate::GoesOn),
-                _ => Err(error),
-            },
-        }
+        self.over |= !self.known && is_no_command(reply);
+        self.known = true;
     }
 
-    /// Sends what has not left, as far as there is room. `Ends` where all has left.
-    fn send(&mut self) -> io::Result<Fate> {
-        for _ in 0..TURN_SENDS {
-            match self.send_once()? {
-                Fate::GoesOn => {}
-                Fate::Waits => return Ok(Fate::Waits),
-                Fate::Ends => {
-                    self.unsent.clear();
-                    self.sent = 0;
-                    return Ok(Fate::Ends);
-                }
-            }
-        }
-        Ok(Fate::GoesOn)
-    }
-
-    /// Takes a piece, and answers the lines that end in it.
-    fn take<D: Desk, T: Till>(
+    /// Has the conversation take a line, or a part of one, and answer it.
+    fn answer<D: Desk, T: Till>(
         &mut self,
-        piece: &[u8],
+        part: &[u8],
         port: Port<'_>,
         desk: &mut D,
         till: &mut T,
     ) -> Result<(), WriteFault>
         ensures same_desk { (D.parts desk.new).standing ≡ (D.parts desk.old).standing }
         ensures asked { AreAskedAt port.entry.zone.now port.entry.role (D.parts desk.old).taken (D.parts desk.new).taken }
+        ensures begun { self.new.begun ≡ self.old.begun }
+        ensures pending { self.new.pending.items ≡ self.old.pending.items }
     {
+        let before = self.unsent.len();
         let left = self
             .conversation
-            .take(piece, &mut self.unsent, port, desk, till)?;
-        if left.is_some() {
-            self.over = true;
-        }
+            .take(part, &mut self.unsent, port, desk, till)?;
+        self.over |= left.is_some();
+        self.note_reply(before);
         Ok(())
     }
 
-    /// Takes a line of a piece, and says what comes after it; or all of the piece, where no line ends in it.
+    /// Takes the first line of some bytes, and says whether it is a word of staff, and what stands behind it. Where no line ends in them it
+    /// takes them all.
     fn take_line<'v, D: Desk, T: Till>(
         &mut self,
-        piece: &'v [u8],
+        bytes: &'v [u8],
         port: Port<'_>,
         desk: &mut D,
         till: &mut T,
-    ) -> Result<&'v [u8], WriteFault>
+    ) -> Result<(Option<Word>, &'v [u8]), WriteFault>
         ensures same_desk { (D.parts desk.new).standing ≡ (D.parts desk.old).standing }
         ensures asked { AreAskedAt port.entry.zone.now port.entry.role (D.parts desk.old).taken (D.parts desk.new).taken }
+        ensures staff { IfOk result (λ taken. IfSome taken.0 (λ _. port.entry.role ≡ roles.All)) }
+        ensures taken { IfOk result (λ taken. IsTaken port.entry.role self.old.begun bytes.now taken.0 self.new.begun taken.1.now) }
+        ensures shorter { IfOk result (λ taken. 0 < length bytes.now → length taken.1.now < length bytes.now) }
+        ensures pending { self.new.pending.items ≡ self.old.pending.items }
     {
-        let Some((_, rest)) = cut(piece) else {
-            self.take(piece, port, desk, till)?;
-            return Ok(&piece[piece.len()..]);
+        pay_session::laws::piece_by_piece();
+        let Some((text, behind)) = cut(bytes) else {
+            self.begun.extend(bytes);
+            self.answer(bytes, port, desk, till)?;
+            return Ok((None, &bytes[bytes.len()..]));
         };
-        let (line, rest) = piece.split_at(piece.len() - rest.len());
-        self.take(line, port, desk, till)?;
-        Ok(rest)
+        let word = self.begun.finish(text, port.role);
+        if word.is_some() {
+            self.known = true;
+            // What it was given of this line is none of the session's.
+            self.conversation = Conversation::new();
+            return Ok((word, behind));
+        }
+        self.answer(&bytes[..bytes.len() - behind.len()], port, desk, till)?;
+        Ok((None, behind))
     }
 
-    /// Takes the lines of a piece one after another, until a peer that does not read has to read first. What is left is pending.
+    /// Whether it takes a line of some bytes now: not where none are left, where no more lines are taken, or where the peer has to read
+    /// first.
+    fn takes(&self, bytes: &[u8]) -> bool
+        ensures { IsTrue result → 0 < length bytes.now }
+    {
+        !bytes.is_empty() && !self.over && self.unsent.len() <= MOST_UNSENT
+    }
+
+    /// Keeps bytes that are not taken yet, unless no more lines are taken.
+    fn keep(&mut self, bytes: &[u8]) -> Result<(), WriteFault>
+        ensures begun { self.new.begun ≡ self.old.begun }
+        ensures over { self.new.over ≡ self.old.over }
+        ensures pending { OnOk result (self.old.over ≡ false → self.new.pending.items ≡ self.old.pending.items ++ bytes.now) }
+    {
+        if self.over {
+            return Ok(());
+        }
+        self.pending
+            .extend_from_slice(bytes)
+            .map_err(|_| WriteFault::Failed(ErrorKind::OutOfMemory))
+    }
+
+    /// Takes the lines of a piece one after another, until one is a word of staff, or the peer has to read first. What is left is pending.
     fn take_lines<D: Desk, T: Till>(
         &mut self,
         piece: &[u8],
         port: Port<'_>,
         desk: &mut D,
         till: &mut T,
-    ) -> Result<(), WriteFault>
+    ) -> Result<Option<Word>, WriteFault>
+        requires { self.old.pending.items ≡ [] }
         ensures same_desk { (D.parts desk.new).standing ≡ (D.parts desk.old).standing }
         ensures asked { AreAskedAt port.entry.zone.now port.entry.role (D.parts desk.old).taken (D.parts desk.new).taken }
+        ensures staff { IfOk result (λ word. IfSome word (λ _. port.entry.role ≡ roles.All)) }
+        ensures taken { IfOk result (λ word. self.new.over ≡ false → IsTaken port.entry.role self.old.begun piece.now word self.new.begun self.new.pending.items) }
     {
         pay_session::laws::piece_by_piece();
         let mut rest = piece;
-        for _ in 0..piece.len() {
-            if rest.is_empty() || self.over {
-                return Ok(());
+        'lines: while self.takes(rest) {
+            let (word, behind) = self.take_line(rest, port, desk, till)?;
+            rest = behind;
+            if word.is_some() {
+                self.keep(rest)?;
+                return Ok(word);
             }
-            if self.unsent.len() > MOST_UNSENT {
-                self.pending
-                    .extend_from_slice(rest)
-                    .map_err(|_| WriteFault::Failed(ErrorKind::OutOfMemory))?;
-                return Ok(());
-            }
-            rest = self.take_line(rest, port, desk, till)?;
         }
-        Ok(())
-    }
-
-    /// The same of a piece in which the first line may end: where that is no command, no more is taken, since the peer speaks another
-    /// protocol.
-    fn take_first<D: Desk, T: Till>(
-        &mut self,
-        piece: &[u8],
-        port: Port<'_>,
-        desk: &mut D,
-        till: &mut T,
-    ) -> Result<(), WriteFault>
-        ensures same_desk { (D.parts desk.new).standing ≡ (D.parts desk.old).standing }
-        ensures asked { AreAskedAt port.entry.zone.now port.entry.role (D.parts desk.old).taken (D.parts desk.new).taken }
-    {
-        pay_session::laws::piece_by_piece();
-        let Some((_, rest)) = cut(piece) else {
-            return self.take(piece, port, desk, till);
-        };
-        let (line, rest) = piece.split_at(piece.len() - rest.len());
-        self.take(line, port, desk, till)?;
-        self.known = true;
-        self.over |= is_no_command(&self.unsent);
-        if self.over {
-            return Ok(());
-        }
-        self.take_lines(rest, port, desk, till)
+        self.keep(rest)?;
+        Ok(None)
     }
 
     /// Answers what no newline ended, once the peer sends no more.
@@ -217,74 +224,33 @@ impl Peer {
         ensures asked { AreAskedAt port.entry.zone.now port.entry.role (D.parts desk.old).taken (D.parts desk.new).taken }
     {
         self.over = true;
-        self.conversation.end(&mut self.unsent, port, desk, till)
-    }
-
-    /// The same of a piece at a port where all may be asked for: a line `STOP` is no line of the session, and asks for the service to stop.
-    fn take_or_stop<D: Desk, T: Till>(
-        &mut self,
-        piece: &[u8],
-        port: Port<'_>,
-        desk: &mut D,
-        till: &mut T,
-    ) -> Result<(), WriteFault>
-        ensures same_desk { (D.parts desk.new).standing ≡ (D.parts desk.old).standing }
-        ensures asked { AreAskedAt port.entry.zone.now port.entry.role (D.parts desk.old).taken (D.parts desk.new).taken }
-    {
-        let Some(front) = self.word.find(piece) else {
-            return self.take_known(piece, port, desk, till);
-        };
-        self.take_known(&piece[..front], port, desk, till)?;
-        if !self.over {
-            self.stops = true;
-            self.over = true;
-            let _ = self.unsent.extend_from_slice(b"BYE\n");
-        }
+        let before = self.unsent.len();
+        self.conversation.end(&mut self.unsent, port, desk, till)?;
+        self.note_reply(before);
         Ok(())
     }
 
-    /// Whether it asked for the service to stop.
-    pub fn stops(&self) -> bool {
-        self.stops
-    }
-
-    /// Takes a piece of a peer that may be known.
-    fn take_known<D: Desk, T: Till>(
-        &mut self,
-        piece: &[u8],
-        port: Port<'_>,
-        desk: &mut D,
-        till: &mut T,
-    ) -> Result<(), WriteFault>
-        ensures same_desk { (D.parts desk.new).standing ≡ (D.parts desk.old).standing }
-        ensures asked { AreAskedAt port.entry.zone.now port.entry.role (D.parts desk.old).taken (D.parts desk.new).taken }
-    {
-        if self.known {
-            self.take_lines(piece, port, desk, till)
-        } else {
-            self.take_first(piece, port, desk, till)
-        }
-    }
-
-    /// Takes what was read.
+    /// Takes what was read: some lines, or, where it is nothing, that no more comes.
     fn take_read<D: Desk, T: Till>(
         &mut self,
         piece: &[u8],
         port: Port<'_>,
         desk: &mut D,
         till: &mut T,
-    ) -> Result<(), WriteFault>
+    ) -> Result<Option<Word>, WriteFault>
+        requires { self.old.pending.items ≡ [] }
         ensures same_desk { (D.parts desk.new).standing ≡ (D.parts desk.old).standing }
         ensures asked { AreAskedAt port.entry.zone.now port.entry.role (D.parts desk.old).taken (D.parts desk.new).taken }
+        ensures staff { IfOk result (λ word. IfSome word (λ _. port.entry.role ≡ roles.All)) }
     {
-        match (piece.is_empty(), port.role) {
-            (true, _) => self.end(port, desk, till),
-            (false, Role::Taps) => self.take_known(piece, port, desk, till),
-            (false, Role::All) => self.take_or_stop(piece, port, desk, till),
+        if !piece.is_empty() {
+            return self.take_lines(piece, port, desk, till);
         }
+        self.end(port, desk, till)?;
+        Ok(None)
     }
 
-    /// Reads a piece, and answers the lines that end in it. `GoesOn` where there may be more.
+    /// Reads a piece, and takes its lines.
     fn read<D: Desk, T: Till>(
         &mut self,
         buffer: &mut [u8],
@@ -292,27 +258,20 @@ impl Peer {
         desk: &mut D,
         till: &mut T,
     ) -> Fate
+        requires { self.old.pending.items ≡ [] }
         ensures same_desk { (D.parts desk.new).standing ≡ (D.parts desk.old).standing }
         ensures asked { AreAskedAt port.entry.zone.now port.entry.role (D.parts desk.old).taken (D.parts desk.new).taken }
+        ensures staff { (word : Word) → result ≡ Fate.Asks word → port.entry.role ≡ roles.All }
     {
         pay_session::laws::piece_by_piece();
         let count = match (&self.stream).read(buffer) {
             Ok(count) => count,
-            Err(error) => {
-                return match error.kind() {
-                    ErrorKind::WouldBlock => Fate::Waits,
-                    ErrorKind::Interrupted => Fate::GoesOn,
-                    _ => Fate::Ends,
-                };
-            }
+            Err(error) => return fate_of(&error),
         };
-        match self.take_read(&buffer[..count], port, desk, till) {
-            Ok(()) => Fate::GoesOn,
-            Err(_) => Fate::Ends,
-        }
+        fate_after(self.take_read(&buffer[..count], port, desk, till))
     }
 
-    /// Takes what is pending, which came from a buffer of this size.
+    /// Takes the lines of what is pending, which came from a buffer of this size.
     fn take_pending<D: Desk, T: Till>(
         &mut self,
         buffer: &mut [u8],
@@ -322,6 +281,9 @@ impl Peer {
     ) -> Fate
         ensures same_desk { (D.parts desk.new).standing ≡ (D.parts desk.old).standing }
         ensures asked { AreAskedAt port.entry.zone.now port.entry.role (D.parts desk.old).taken (D.parts desk.new).taken }
+        ensures staff { (word : Word) → result ≡ Fate.Asks word → port.entry.role ≡ roles.All }
+        ensures taken { result ≢ Fate.Ends → self.new.over ≡ false
+            → IsTaken port.entry.role self.old.begun self.old.pending.items (word_in result) self.new.begun self.new.pending.items }
     {
         pay_session::laws::piece_by_piece();
         let count = self.pending.len();
@@ -329,16 +291,15 @@ impl Peer {
             return Fate::Ends;
         };
         room.copy_from_slice(&self.pending);
-        self.pending.clear();
-        match self.take_lines(room, port, desk, till) {
-            Ok(()) => Fate::GoesOn,
-            Err(_) => Fate::Ends,
-        }
+        empty(&mut self.pending);
+        fate_after(self.take_lines(room, port, desk, till))
     }
 
     /// Says that no more comes, and takes what the peer still sends: bytes that nobody has taken when a stream is dropped make the system
     /// break the connection, and the peer may lose replies by it.
-    fn part(&mut self, buffer: &mut [u8]) -> Fate {
+    fn part(&mut self, buffer: &mut [u8]) -> Fate
+        ensures no_word { (word : Word) → result ≡ Fate.Asks word → ⊥ }
+    {
         if !self.told {
             self.told = true;
             if self.stream.shutdown(Shutdown::Write).is_err() {
@@ -352,16 +313,22 @@ impl Peer {
         match (&self.stream).read(buffer) {
             Ok(0) => Fate::Ends,
             Ok(_) => Fate::GoesOn,
-            Err(error) => match error.kind() {
-                ErrorKind::WouldBlock => Fate::Waits,
-                ErrorKind::Interrupted => Fate::GoesOn,
-                _ => Fate::Ends,
-            },
+            Err(error) => fate_of(&error),
         }
     }
 
-    /// Sends what has not left, and then reads a piece and answers the lines that end in it. So no more is read of a peer that does not
-    /// read.
+    /// Sends what has not left, as far as there is room, and says that no more comes, as the service ends.
+    pub fn leave(&mut self, buffer: &mut [u8]) {
+        self.send();
+        for _ in 0..TURN_PIECES {
+            match self.part(buffer) {
+                Fate::GoesOn => {}
+                _ => return,
+            }
+        }
+    }
+
+    /// Sends what has not left, and then takes the lines that were read, or reads some. So no more is read of a peer that does not read.
     fn step<D: Desk, T: Till>(
         &mut self,
         buffer: &mut [u8],
@@ -371,23 +338,27 @@ impl Peer {
     ) -> Fate
         ensures same_desk { (D.parts desk.new).standing ≡ (D.parts desk.old).standing }
         ensures asked { AreAskedAt port.entry.zone.now port.entry.role (D.parts desk.old).taken (D.parts desk.new).taken }
+        ensures staff { (word : Word) → result ≡ Fate.Asks word → port.entry.role ≡ roles.All }
     {
         pay_session::laws::piece_by_piece();
         match self.send() {
-            Ok(Fate::Ends) => {}
-            Ok(fate) => return fate,
-            Err(_) => return Fate::Ends,
+            Fate::GoesOn => {}
+            fate => return fate,
+        }
+        if !self.unsent.is_empty() {
+            return Fate::GoesOn;
         }
         if self.over {
             return self.part(buffer);
         }
-        if !self.pending.is_empty() {
-            return self.take_pending(buffer, port, desk, till);
+        if self.pending.is_empty() {
+            self.read(buffer, port, desk, till)
+        } else {
+            self.take_pending(buffer, port, desk, till)
         }
-        self.read(buffer, port, desk, till)
     }
 
-    /// Takes its turn: at most a few pieces.
+    /// Takes its turn: at most a few pieces. What staff ask of the service ends it.
     pub fn turn<D: Desk, T: Till>(
         &mut self,
         buffer: &mut [u8],
@@ -397,6 +368,7 @@ impl Peer {
     ) -> Fate
         ensures same_desk { (D.parts desk.new).standing ≡ (D.parts desk.old).standing }
         ensures asked { AreAskedAt port.entry.zone.now port.entry.role (D.parts desk.old).taken (D.parts desk.new).taken }
+        ensures staff { (word : Word) → result ≡ Fate.Asks word → port.entry.role ≡ roles.All }
     {
         pay_session::laws::piece_by_piece();
         for _ in 0..TURN_PIECES {
@@ -404,9 +376,6 @@ impl Peer {
                 Fate::GoesOn => {}
                 fate => return fate,
             }
-        }
-        if self.stops {
-            let _ = self.send();
         }
         Fate::GoesOn
     }

@@ -2,44 +2,49 @@
 
 use crate::limits::MOST_PEERS;
 use crate::peer::Peer;
-use std::alloc::Global;
+use std::alloc::{AllocError, Global};
+use std::collections::VecDeque;
 
-/// The connections that a lane holds, each at the place of its number.
+/// The connections that a lane holds, each at the place of its number, and the places of those that have a turn to come.
 #[derive(Drop)]
 pub struct Peers {
     all: Vec<Option<Peer>>,
-    // The places of those that are over.
+    // The places of those that are over. One that there is no memory to keep is not used again.
     free: Vec<usize>,
+    queue: VecDeque<usize>,
 }
 
 impl Peers {
     /// None.
-    pub fn new(alloc: Global) -> Peers {
-        Peers {
+    pub fn new(alloc: Global) -> Result<Peers, AllocError> {
+        Ok(Peers {
             all: Vec::new(alloc),
             free: Vec::new(alloc),
+            queue: VecDeque::with_capacity(alloc, MOST_PEERS)?,
+        })
+    }
+
+    /// How many places there are.
+    pub fn len(&self) -> usize {
+        self.all.len()
+    }
+
+    /// The place of the next connection, if there is one.
+    pub fn next_place(&self) -> Option<usize> {
+        match self.free.last() {
+            Some(place) => Some(*place),
+            None if self.all.len() < MOST_PEERS => Some(self.all.len()),
+            None => None,
         }
     }
 
-    /// A place for one more, if there is one.
-    pub fn free_place(&mut self) -> Option<usize> {
-        if let Some(place) = self.free.pop() {
-            return Some(place);
-        }
-        let place = self.all.len();
-        if place >= MOST_PEERS {
-            return None;
-        }
-        self.free.reserve(place + 1).ok()?;
-        self.all.push(None).ok()?;
-        Some(place)
-    }
-
-    /// Holds a connection at a place.
-    pub fn hold(&mut self, place: usize, peer: Peer) {
-        if let Some(held) = self.all.get_mut(place) {
-            *held = Some(peer);
-        }
+    /// Holds a connection at the next place.
+    pub fn hold(&mut self, peer: Peer) -> Option<()> {
+        let Some(place) = self.free.pop() else {
+            return self.all.push(Some(peer)).ok();
+        };
+        *self.all.get_mut(place)? = Some(peer);
+        Some(())
     }
 
     /// The connection at a place.
@@ -53,5 +58,31 @@ impl Peers {
             *held = None;
             let _ = self.free.push(place);
         }
+    }
+
+    /// How many have a turn to come.
+    pub fn queued(&self) -> usize {
+        self.queue.len()
+    }
+
+    /// The connection at a place has a turn to come, and no more than one.
+    pub fn queue(&mut self, place: usize) {
+        let Some(peer) = self.at(place) else {
+            return;
+        };
+        if peer.queued {
+            return;
+        }
+        peer.queued = true;
+        if self.queue.push_back(place).is_err() {
+            self.let_go(place);
+        }
+    }
+
+    /// The place of the connection that has the next turn.
+    pub fn next(&mut self) -> Option<usize> {
+        let place = self.queue.pop_front()?;
+        self.at(place)?.queued = false;
+        Some(place)
     }
 }

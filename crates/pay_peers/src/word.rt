@@ -1,46 +1,91 @@
-//! The word that stops a service.
-ghost use Rattle.std.specs.Prelude.{◌≤◌, length, IfSome};
+//! The words of staff's port, which no session knows.
+ghost use Rattle.std.specs.Prelude.{◌≡◌, ℕ, ◌≤◌, List, [], ◌∷◌, ◌++◌, take, IfSome};
+ghost use Rattle.pay_peers.specs.Lines.{word_at};
 
-/// What it is, as a line of its own.
-const STOP: &[u8] = b"STOP";
+use pay_session::Role;
+use std::marker::Model;
 
-/// The line that is being read, as far as it may be that word.
-#[derive(Clone, Copy)]
-pub struct Word {
-    // How many bytes of it are the word's, or more than the word has.
-    matched: usize,
+/// What staff ask of the service itself, each by a line of its own.
+#[derive(Clone, Copy, Debug, PartialEq, Eq)]
+pub enum Word {
+    /// `STOP`: that it ends.
+    Stop,
 }
 
-impl Word {
-    /// Before the first line.
-    pub fn new() -> Word {
-        Word { matched: 0 }
+/// The word that a line is at a port. As in a session every byte counts, a carriage return too.
+fn word_at(role: Role, line: &[u8]) -> Option<Word>
+    ensures word { result ≡ word_at role line.now }
+    ensures staff { IfSome result (λ _. role ≡ Role.All) }
+{
+    match role {
+        Role::Taps => None,
+        Role::All => match line {
+            b"STOP" => Some(Word::Stop),
+            _ => None,
+        },
     }
+}
 
-    /// One more byte of the line.
-    fn add(&mut self, byte: u8) {
-        self.matched = match STOP.get(self.matched) {
-            Some(next) if *next == byte => self.matched.saturating_add(1),
-            _ => usize::MAX,
-        };
-    }
+/// How many bytes of a line are kept: more than a word has, so that a longer line shows.
+const KEPT_BYTES: usize = 6;
 
-    /// Where the first line begins that is the word and ends in a piece, or 0 if it began before the piece.
-    pub fn find(&mut self, piece: &[u8]) -> Option<usize>
-        ensures within { IfSome result (λ n. n ≤ length piece.now) }
+/// The line that is being read, as much of it as is kept.
+#[derive(Drop)]
+pub struct Begun {
+    bytes: [u8; KEPT_BYTES],
+    count: usize,
+}
+
+impl Model for Begun {
+    ghost use Rattle.std.specs.Prelude.{ℕ, ◌≤◌, List, take};
+
+    ghost Value = { List ℕ };
+
+    ghost view = { λ b. take b.count b.bytes };
+
+    ghost invariant = { λ b. b.count ≤ 6 };
+}
+
+impl Begun {
+    /// An empty line.
+    pub fn new() -> Begun
+        ensures { result ≡ [] }
     {
-        let mut begins = 0;
-        for place in 0..piece.len() {
-            if piece[place] != b'\n' {
-                self.add(piece[place]);
-                continue;
-            }
-            if self.matched == STOP.len() {
-                return Some(begins);
-            }
-            self.matched = 0;
-            begins = place + 1;
+        Begun {
+            bytes: [0; KEPT_BYTES],
+            count: 0,
         }
-        None
+    }
+
+    /// Adds a byte at the end, if it is kept.
+    fn add(&mut self, byte: u8)
+        ensures { self.new ≡ take 6 (self.old ++ byte ∷ []) }
+    {
+        if self.count < KEPT_BYTES {
+            self.bytes[self.count] = byte;
+            self.count += 1;
+        }
+    }
+
+    /// Adds bytes at the end, as far as they are kept.
+    pub fn extend(&mut self, more: &[u8])
+        ensures { self.new ≡ take 6 (self.old ++ more.now) }
+    {
+        let _ = &self.count;
+        for byte in &more[..KEPT_BYTES.min(more.len())] {
+            self.add(*byte);
+        }
+    }
+
+    /// The word that the line is at a port which ends with these bytes. A new line begins.
+    pub fn finish(&mut self, text: &[u8], role: Role) -> Option<Word>
+        ensures word { result ≡ word_at role (self.old ++ text.now) }
+        ensures staff { IfSome result (λ _. role ≡ Role.All) }
+        ensures anew { self.new ≡ [] }
+    {
+        self.extend(text);
+        let word = word_at(role, &self.bytes[..self.count]);
+        self.count = 0;
+        word
     }
 }

@@ -1,6 +1,6 @@
 use Rattle.std.proofs.Common.{◌≡◌}
 use Rattle.pay_session.specs.Words.{AreAskedAt}
-use Rattle.pay_peers.proofs.ready.Serving.serve_all.Given as goal
+use Rattle.pay_peers.proofs.serving.Serving.serve_queued.Given as goal
 
 abbrev pub invariant-loop : goal.invariant-loop
 invariant-loop g l =

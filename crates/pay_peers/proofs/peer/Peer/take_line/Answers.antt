@@ -1,0 +1,19 @@
+use Rattle.std.proofs.Common.{◌≡◌, ◌-◌, length, take, drop, ◌∙◌, sym, ap, arith, rules}
+use Rattle.pay_peers.proofs.FirstWords.{line_is_taken, rest_is_taken, none_from}
+use Rattle.pay_peers.proofs.peer.Peer.take_line.Goals as goal
+
+pub returns-in_default-clause-taken : goal.returns-in_default-clause-taken
+returns-in_default-clause-taken g c =
+    let bytes = c.args.bytes.now in
+    let nothing : length bytes - length bytes ≡ 0 = omega arith in
+    rest_is_taken c.args.port.role c.args.self.now.begun bytes _ _ (search rules) (c.in_ok-answer.ensures.begun ∙ c.extend.ensures) (ap (λ n. take n (drop (length bytes) bytes)) nothing)
+
+pub returns-then-is_some-clause-taken : goal.returns-then-is_some-clause-taken
+returns-then-is_some-clause-taken g c =
+    line_is_taken c.args.port.role c.args.self.now.begun c.args.bytes.now c.in-Some.text.now c.in-Some.behind.now _ _ (search rules) (search rules) c.finish-word.ensures.word c.finish-word.ensures.anew
+
+pub returns-clause-taken : goal.returns-clause-taken
+returns-clause-taken g c =
+    line_is_taken c.args.port.role c.args.self.now.begun c.args.bytes.now c.in-Some.text.now c.in-Some.behind.now _ _ (search rules) (search rules)
+    (none_from c.finish-word.result (sym c.is_some.ensures ∙ c.if-is_some.false) ∙ c.finish-word.ensures.word)
+    (c.in_ok-answer-2.ensures.begun ∙ c.finish-word.ensures.anew)

@@ -1,9 +1,0 @@
-use Rattle.std.proofs.Common.{◌≡◌}
-use Rattle.pay_session.specs.Words.{AreAskedAt}
-use Rattle.pay_peers.proofs.ready.Serving.serve_ready.Given as goal
-
-abbrev pub invariant-loop-event : goal.invariant-loop-event
-invariant-loop-event g l =
-    let D = g.D.Desk in
-    ((D.parts l.desk).standing ≡ (D.parts l.initial.desk).standing)
-    × AreAskedAt l.port.zone.now l.port.role (D.parts l.initial.desk).taken (D.parts l.desk).taken

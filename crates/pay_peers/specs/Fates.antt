@@ -1,0 +1,12 @@
+-- What a turn says of the words of staff.
+use Rattle.std.specs.Prelude.{Option, Some, None}
+use Rattle.pay_peers.specs.declared.fate.Fate.{Fate}
+use Rattle.pay_peers.specs.declared.fate.Fate.TheVariants.{Waits, GoesOn, Asks, Ends}
+use Rattle.pay_peers.specs.declared.word.Word.{Word}
+
+-- the word that it ended at
+abbrev pub word_in : Fate → Option Word
+word_in Waits = None
+word_in GoesOn = None
+word_in (Asks word) = Some word
+word_in Ends = None

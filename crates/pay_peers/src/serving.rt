@@ -1,0 +1,233 @@
+//! A port, with the connections that came there to one lane.
+ghost use Rattle.std.specs.Prelude.{◌≡◌};
+ghost use Rattle.pay_session.specs.Words.{AreAskedAt};
+ghost use Rattle.pay_peers.specs.declared.word.Word.{Word};
+ghost use Rattle.pay_session.specs.declared.port.Role.TheVariants as roles;
+
+use crate::fate::Fate;
+use crate::limits::{LONGEST_WAIT, MOST_ACCEPTED, MOST_EVENTS, MOST_FAILURES, PIECE_BYTES};
+use crate::peer::Peer;
+use crate::peers::Peers;
+use crate::word::Word;
+use mio::net::{TcpListener, TcpStream};
+use mio::{Events, Interest, Poll, Token};
+use pay_session::{Port, Role};
+use pay_shard::Desk;
+use pay_till::Till;
+use std::alloc::Global;
+use std::net::Net;
+use std::sync::atomic::{AtomicBool, Ordering};
+use std::sync::{Arc, Wait};
+use std::time::Duration;
+use std::{io, net};
+
+/// The token of the listener. That of a connection is its place and one more.
+const LISTENER: usize = 0;
+
+/// A port, with the connections that came there to one lane.
+#[derive(Drop)]
+pub struct Serving {
+    alloc: Global,
+    listener: TcpListener,
+    poll: Poll,
+    events: Events,
+    peers: Peers,
+    buffer: Vec<u8>,
+    // What tells the service to stop.
+    stop: Arc<AtomicBool>,
+    // How often in a row it failed to wait.
+    failures: u32,
+}
+
+/// Has a poll report a connection under the token of its place.
+fn register(poll: &Poll, stream: &mut TcpStream, place: usize) -> io::Result<()> {
+    let token = Token(place.saturating_add(1));
+    poll.registry()
+        .register(stream, token, Interest::READABLE | Interest::WRITABLE)
+}
+
+impl Serving {
+    /// A port at a listener. It ends once it is told to stop.
+    pub fn new<R: Net>(
+        rt: &R,
+        alloc: Global,
+        listener: net::TcpListener,
+        stop: Arc<AtomicBool>,
+    ) -> io::Result<Serving> {
+        listener.set_nonblocking(true)?;
+        let mut listener = TcpListener::from_std(listener);
+        let poll = Poll::new(rt)?;
+        poll.registry()
+            .register(&mut listener, Token(LISTENER), Interest::READABLE)?;
+        Ok(Serving {
+            alloc,
+            listener,
+            poll,
+            events: Events::with_capacity(alloc, MOST_EVENTS)?,
+            peers: Peers::new(alloc)?,
+            buffer: Vec::from_elem(alloc, 0, PIECE_BYTES)?,
+            stop,
+            failures: 0,
+        })
+    }
+
+    /// Tells the whole service to stop.
+    fn stop(&self) {
+        self.stop.store(true, Ordering::SeqCst);
+    }
+
+    /// Holds a connection, if there is room.
+    fn hold(&mut self, stream: TcpStream) -> Option<()> {
+        let place = self.peers.next_place()?;
+        // A reply is not held back for the next one.
+        let _ = stream.set_nodelay(true);
+        let mut stream = stream;
+        register(&self.poll, &mut stream, place).ok()?;
+        self.peers.hold(Peer::new(self.alloc, stream))
+    }
+
+    /// Holds the connections that wait, as far as they come, and drops those for which there is no room.
+    fn accept(&mut self) {
+        for _ in 0..MOST_ACCEPTED {
+            let Ok((stream, _)) = self.listener.accept() else {
+                return;
+            };
+            let _ = self.hold(stream);
+        }
+    }
+
+    /// Does what staff ask of the service by the connection at a place. There is nothing where memory runs out.
+    fn obey(&mut self, place: usize, word: Word, role: Role) -> Option<()>
+        requires { role ≡ roles.All }
+    {
+        match (role, word) {
+            (Role::Taps, _) => unreachable!(),
+            (Role::All, Word::Stop) => {
+                self.stop();
+                self.peers.at(place)?.say_bye()
+            }
+        }
+    }
+
+    /// The connection at a place takes its turn, if it is there.
+    fn turn<D: Desk, T: Till>(
+        &mut self,
+        place: usize,
+        port: Port<'_>,
+        desk: &mut D,
+        till: &mut T,
+    ) -> Fate
+        ensures same_desk { (D.parts desk.new).standing ≡ (D.parts desk.old).standing }
+        ensures asked { AreAskedAt port.entry.zone.now port.entry.role (D.parts desk.old).taken (D.parts desk.new).taken }
+        ensures staff { (word : Word) → result ≡ Fate.Asks word → port.entry.role ≡ roles.All }
+    {
+        pay_session::laws::piece_by_piece();
+        match self.peers.at(place) {
+            Some(peer) => peer.turn(&mut self.buffer, port, desk, till),
+            None => Fate::Waits,
+        }
+    }
+
+    /// The same, and what becomes of it: it has one more turn soon, it waits, or it is let go.
+    fn serve<D: Desk, T: Till>(&mut self, place: usize, port: Port<'_>, desk: &mut D, till: &mut T)
+        ensures same_desk { (D.parts desk.new).standing ≡ (D.parts desk.old).standing }
+        ensures asked { AreAskedAt port.entry.zone.now port.entry.role (D.parts desk.old).taken (D.parts desk.new).taken }
+    {
+        match self.turn(place, port, desk, till) {
+            Fate::Waits => {}
+            Fate::GoesOn => self.peers.queue(place),
+            Fate::Asks(word) => match self.obey(place, word, port.role) {
+                Some(()) => self.peers.queue(place),
+                None => self.peers.let_go(place),
+            },
+            Fate::Ends => self.peers.let_go(place),
+        }
+    }
+
+    /// Those that have a turn to come have it, and no more than one.
+    fn serve_queued<D: Desk, T: Till>(&mut self, port: Port<'_>, desk: &mut D, till: &mut T)
+        ensures same_desk { (D.parts desk.new).standing ≡ (D.parts desk.old).standing }
+        ensures asked { AreAskedAt port.entry.zone.now port.entry.role (D.parts desk.old).taken (D.parts desk.new).taken }
+    {
+        pay_session::laws::piece_by_piece();
+        for _ in 0..self.peers.queued() {
+            if let Some(place) = self.peers.next() {
+                self.serve(place, port, desk, till);
+            }
+        }
+    }
+
+    /// Waits until there is something to do, but not for long where some may go on at once, and says whether it could. Where it fails time
+    /// and again, the service ends. A signal is no failure.
+    fn wait(&mut self) -> bool {
+        let longest = if self.peers.queued() == 0 {
+            LONGEST_WAIT
+        } else {
+            0
+        };
+        let longest = Some(Duration::from_millis(longest));
+        if self.poll.poll(&mut self.events, longest).is_ok() {
+            self.failures = 0;
+            return true;
+        }
+        self.failures = self.failures.saturating_add(1);
+        if self.failures >= MOST_FAILURES {
+            self.stop();
+        }
+        false
+    }
+
+    /// What is ready has a turn to come, behind those that have one already.
+    fn queue_ready(&mut self) {
+        for event in self.events.iter() {
+            if let Some(place) = event.token().0.checked_sub(1) {
+                self.peers.queue(place);
+            }
+        }
+    }
+
+    /// Waits, and serves what is ready.
+    fn round<D: Desk, T: Till>(&mut self, port: Port<'_>, desk: &mut D, till: &mut T)
+        ensures same_desk { (D.parts desk.new).standing ≡ (D.parts desk.old).standing }
+        ensures asked { AreAskedAt port.entry.zone.now port.entry.role (D.parts desk.old).taken (D.parts desk.new).taken }
+    {
+        pay_session::laws::piece_by_piece();
+        if !self.wait() {
+            return;
+        }
+        // Each time, since one that was not taken is not told of again.
+        self.accept();
+        self.queue_ready();
+        self.serve_queued(port, desk, till);
+    }
+
+    /// Sends each peer what waits for it, as far as the system takes it, and says that no more comes.
+    fn leave(&mut self) {
+        for place in 0..self.peers.len() {
+            if let Some(peer) = self.peers.at(place) {
+                peer.leave(&mut self.buffer);
+            }
+        }
+    }
+
+    /// Serves whoever comes until it is told to stop.
+    pub fn serve_all<R: Wait, D: Desk, T: Till>(
+        &mut self,
+        rt: &R,
+        port: Port<'_>,
+        desk: &mut D,
+        till: &mut T,
+    )
+        ensures same_desk { (D.parts desk.new).standing ≡ (D.parts desk.old).standing }
+        ensures asked { AreAskedAt port.entry.zone.now port.entry.role (D.parts desk.old).taken (D.parts desk.new).taken }
+    {
+        pay_session::laws::piece_by_piece();
+        for _ in rt.forever() {
+            if self.stop.load(Ordering::SeqCst) {
+                break;
+            }
+            self.round(port, desk, till);
+        }
+        self.leave();
+    }
+}
