@@ -1,6 +1,7 @@
 -- The first word in bytes that are taken line by line.
-use Rattle.std.proofs.Common.{◌≡◌, ℕ, Bool, true, false, ◌||◌, eqb, if◌then◌else◌, List, [], ◌∷◌, ◌++◌, take, Option, Some, None, ap, sym, subst, ◌∙◌, refl, append_assoc, append-nil}
+use Rattle.std.proofs.Common.{◌≡◌, ℕ, Bool, true, false, ◌||◌, eqb, if◌then◌else◌, List, [], ◌∷◌, ◌++◌, ◌-◌, length, take, drop, Option, Some, None, ap, sym, subst, ◌∙◌, refl, append_assoc, append-nil, length-append, arith}
 use Rattle.std.specs.Option.{is_some}
+use Rattle.std.proofs.lemmas.List.{take-append-drop, drop_at}
 use Rattle.pay_session.specs.Requests.{has_newline}
 use Rattle.pay_session.specs.declared.port.Role.{Role}
 use Rattle.pay_session.specs.declared.port.Role.TheVariants.{Taps, All}
@@ -107,3 +108,13 @@ still_taken role begun piece kept later behind pending word is same left =
 pub none_from : (word : Option Word) → is_some word ≡ false → None ≡ word
 none_from None e = refl
 none_from (Some w) e = cc
+
+-- the line that a newline ends, with it
+pub line_first : (bytes text behind : List ℕ) → bytes ≡ text ++ 10 ∷ behind → bytes ≡ take (length bytes - length behind) bytes ++ behind
+line_first bytes text behind cut =
+    let n = length bytes - length behind in
+    let line = text ++ 10 ∷ [] in
+    let whole : bytes ≡ line ++ behind = cut ∙ sym (append_assoc text (10 ∷ []) behind) in
+    let size : length line ≡ n = omega (arith, ap length whole, length-append line behind) in
+    let rest : drop n bytes ≡ behind = ap (drop n) whole ∙ drop_at line behind n size in
+    sym (take-append-drop n bytes) ∙ ap (λ later. take n bytes ++ later) rest

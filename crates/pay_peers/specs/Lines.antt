@@ -1,15 +1,22 @@
 -- The lines that are words of staff's own, and where the first of them stands in the bytes that come.
-use Rattle.std.specs.Prelude.{◌≡◌, ℕ, ◌==◌, List, [], ◌∷◌, ◌++◌, codes, Option, Some, None, if◌then◌else◌, refl}
+use Rattle.std.specs.Prelude.{◌≡◌, ℕ, ◌==◌, List, [], ◌∷◌, ◌++◌, codes, Option, Some, None, Result, if◌then◌else◌, refl}
 use Rattle.std.specs.Str.{bytes_eq}
+use Rattle.pay_rules.specs.declared.posting.Posting.{Posting}
+use Rattle.pay_shard.specs.Words.{DeskParts}
+use Rattle.pay_till.specs.Words.{Taken}
+use Rattle.pay_wire.specs.declared.refusal.Refusal.{Refusal}
+use Rattle.pay_session.specs.Words.{TakesPiece}
+use Rattle.pay_session.specs.declared.port.Port.{Port}
 use Rattle.pay_session.specs.declared.port.Role.{Role}
 use Rattle.pay_session.specs.declared.port.Role.TheVariants.{Taps, All}
 use Rattle.pay_peers.specs.declared.word.Word.{Word}
-use Rattle.pay_peers.specs.declared.word.Word.TheVariants.{Stop}
+use Rattle.pay_peers.specs.declared.word.Word.TheVariants.{Stop, Stats}
 
 -- the word of staff that a line is
 abbrev pub word_of : List ℕ → Option Word
 word_of line =
     if bytes_eq line (codes "STOP") then Some Stop
+    else if bytes_eq line (codes "STATS") then Some Stats
     else None
 
 -- the word that a line is at a port: at that of readers and customers none is
@@ -36,17 +43,24 @@ pub record IsTaken (role : Role) (begun piece : List ℕ) (word : Option Word) (
   pub found : (w : Word) → word ≡ Some w → first_word role begun front ≡ Some (w, [])
   pub goes_on : word ≡ None → (more : List ℕ) → first_word role begun (front ++ more) ≡ first_word role kept more
 
+-- The session answers a front of some bytes, as a piece, and nothing of what stands behind it: at a port, from before to after.
+module _ {D O T : Type 0} (parts : D → DeskParts O) (Closes : T → ℕ → ℕ → List Taken → Result (List Posting) Refusal → T → Type 0) (port : Port) where
+  pub record AnswersFront (bytes behind : List ℕ) (before after : D × T × List ℕ × Option (List ℕ)) : Type 0 where
+    pub front : List ℕ
+    pub cut : bytes ≡ front ++ behind
+    pub takes : TakesPiece parts Closes port front before after
+
 -- ---- worked rows
 
 stop : first_word All [] (codes "DUE 7 19730\nSTOP\nQUIT\n") ≡ Some (Stop, codes "QUIT\n")
 stop = refl
 
 -- in two pieces
-stop_in_two : first_word All (codes "ST") (codes "OP\n") ≡ Some (Stop, [])
-stop_in_two = refl
+stats : first_word All (codes "ST") (codes "ATS\n") ≡ Some (Stats, [])
+stats = refl
 
 -- with more behind it, or before it, or in small letters, or with a carriage return, a line is no word
-longer : first_word All [] (codes "STOPS\nSTOP \nXSTOP\nSTO\nstop\nSTOP\r\n\n") ≡ None
+longer : first_word All [] (codes "STOPS\nSTATS \nXSTOP\nSTO\nstop\nSTOP\r\n\n") ≡ None
 longer = refl
 
 -- and without its newline neither
@@ -54,5 +68,5 @@ unended : first_word All [] (codes "STOP") ≡ None
 unended = refl
 
 -- a reader's word is none
-of_a_reader : first_word Taps [] (codes "STOP\n") ≡ None
+of_a_reader : first_word Taps [] (codes "STOP\nSTATS\n") ≡ None
 of_a_reader = refl

@@ -1,7 +1,9 @@
-//! How many connections a lane holds, and how it divides its time among them.
+//! How many connections a service holds, and how a lane divides its time among them.
 
-/// How many connections it holds at most. One more is dropped.
+/// How many connections of readers and customers a service holds at most, over all its lanes. One more is dropped.
 pub const MOST_PEERS: usize = 10_000;
+/// How many connections of staff it holds at most, beside those.
+pub const MOST_STAFF: usize = 16;
 /// How many are taken at a time.
 pub const MOST_ACCEPTED: u32 = 256;
 /// How many are told at a time to have something to read.

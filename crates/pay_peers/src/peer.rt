@@ -1,14 +1,15 @@
 //! A connection that is held.
 ghost use Rattle.std.specs.Prelude.{◌≡◌, ◌≢◌, ◌<◌, ◌++◌, IsTrue, false, [], length, OnOk, IfOk, IfSome};
-ghost use Rattle.pay_session.specs.Words.{AreAskedAt};
+ghost use Rattle.pay_session.specs.Words.{AreAskedAt, TakesPiece};
 ghost use Rattle.pay_session.specs.declared.port.Role.TheVariants as roles;
 ghost use Rattle.pay_peers.specs.Fates.{word_in};
-ghost use Rattle.pay_peers.specs.Lines.{IsTaken};
+ghost use Rattle.pay_peers.specs.Lines.{IsTaken, AnswersFront};
 ghost use Rattle.pay_peers.specs.declared.word.Word.{Word};
 
 use crate::fate::{Fate, fate_of};
 use crate::limits::{LAST_READS, MOST_UNSENT, TURN_PIECES};
 use crate::sending::{empty, send};
+use crate::tally::Seat;
 use crate::word::{Begun, Word};
 use mio::net::TcpStream;
 use pay_session::{Conversation, Port, cut};
@@ -23,6 +24,7 @@ use std::net::Shutdown;
 #[derive(Drop)]
 pub struct Peer {
     stream: TcpStream,
+    seat: Seat,
     conversation: Conversation,
     // What the conversation was given of a line that has not ended, as far as it may be a word of staff.
     begun: Begun,
@@ -60,9 +62,13 @@ fn fate_after(taken: Result<Option<Word>, WriteFault>) -> Fate
 
 impl Peer {
     /// A connection on which nothing was read or written.
-    pub fn new(alloc: Global, stream: TcpStream) -> Peer {
+    pub fn new(alloc: Global, stream: TcpStream, seat: Seat) -> Peer
+        ensures begun { result.begun ≡ [] }
+        ensures pending { result.pending.items ≡ [] }
+    {
         Peer {
             stream,
+            seat,
             conversation: Conversation::new(),
             begun: Begun::new(),
             unsent: Vec::new(alloc),
@@ -94,16 +100,20 @@ impl Peer {
         self.say(b"BYE\n")
     }
 
-    /// Looks at the reply that stands behind so many bytes, if one does. Where the first line is no command, no more are taken, since the
-    /// peer speaks another protocol.
+    /// Counts the reply that stands behind so many bytes, if one does. Where the first line is no command, no more are taken, since the peer
+    /// speaks another protocol.
     fn note_reply(&mut self, before: usize)
         ensures begun { self.new.begun ≡ self.old.begun }
         ensures pending { self.new.pending.items ≡ self.old.pending.items }
+        ensures conversation { self.new.conversation ≡ self.old.conversation }
+        ensures unsent { self.new.unsent.items ≡ self.old.unsent.items }
+        ensures over { self.new.over ≡ false → self.old.over ≡ false }
     {
         let reply = match self.unsent.get(before..) {
             Some(reply) if !reply.is_empty() => reply,
             _ => return,
         };
+        self.seat.tally().count(reply);
         self.over |= !self.known && is_no_command(reply);
         self.known = true;
     }
@@ -120,6 +130,8 @@ impl Peer {
         ensures asked { AreAskedAt port.entry.zone.now port.entry.role (D.parts desk.old).taken (D.parts desk.new).taken }
         ensures begun { self.new.begun ≡ self.old.begun }
         ensures pending { self.new.pending.items ≡ self.old.pending.items }
+        ensures answered { OnOk result (self.new.over ≡ false → TakesPiece D.parts T.Closes port.entry part.now
+            (desk.old, till.old, self.old.conversation, Some self.old.unsent.items) (desk.new, till.new, self.new.conversation, Some self.new.unsent.items)) }
     {
         let before = self.unsent.len();
         let left = self
@@ -143,6 +155,10 @@ impl Peer {
         ensures asked { AreAskedAt port.entry.zone.now port.entry.role (D.parts desk.old).taken (D.parts desk.new).taken }
         ensures staff { IfOk result (λ taken. IfSome taken.0 (λ _. port.entry.role ≡ roles.All)) }
         ensures taken { IfOk result (λ taken. IsTaken port.entry.role self.old.begun bytes.now taken.0 self.new.begun taken.1.now) }
+        ensures answered { IfOk result (λ taken. taken.0 ≡ None → self.new.over ≡ false → AnswersFront D.parts T.Closes port.entry bytes.now taken.1.now
+            (desk.old, till.old, self.old.conversation, Some self.old.unsent.items) (desk.new, till.new, self.new.conversation, Some self.new.unsent.items)) }
+        ensures anew { IfOk result (λ taken. IfSome taken.0 (λ _. self.new.conversation ≡ [])) }
+        ensures untouched { IfOk result (λ taken. IfSome taken.0 (λ _. (desk.new ≡ desk.old) × (till.new ≡ till.old) × (self.new.unsent.items ≡ self.old.unsent.items))) }
         ensures shorter { IfOk result (λ taken. 0 < length bytes.now → length taken.1.now < length bytes.now) }
         ensures pending { self.new.pending.items ≡ self.old.pending.items }
     {

@@ -29,12 +29,11 @@ impl Peers {
         self.all.len()
     }
 
-    /// The place of the next connection, if there is one.
-    pub fn next_place(&self) -> Option<usize> {
+    /// The place of the next connection.
+    pub fn next_place(&self) -> usize {
         match self.free.last() {
-            Some(place) => Some(*place),
-            None if self.all.len() < MOST_PEERS => Some(self.all.len()),
-            None => None,
+            Some(place) => *place,
+            None => self.all.len(),
         }
     }
 

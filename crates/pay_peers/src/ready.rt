@@ -1,22 +1,38 @@
 //! Places of a service that stays: one for readers and customers, and one for staff.
 
 use crate::serving::Serving;
+use crate::tally::Tally;
 use jiff::tz::TimeZone;
 use pay_office::{Lane, LaneDesk};
 use pay_serve::Place;
 use pay_session::{Port, Role};
 use pay_till::{NoTill, Till};
 use std::alloc::Global;
-use std::io::Eprint;
+use std::io::{Eprint, ErrorKind};
 use std::net::Net;
 use std::sync::atomic::AtomicBool;
 use std::sync::{Arc, Wait};
+use std::time::{Clock, Duration};
 use std::{io, net};
+
+/// The clock of a port where nobody may ask for the time.
+#[derive(Clone, Copy)]
+struct NoClock;
+
+impl Clock for NoClock {
+    fn monotonic(&self) -> io::Result<Duration> {
+        Err(io::Error::from(ErrorKind::Unsupported))
+    }
+
+    fn since_1970(&self) -> io::Result<Duration> {
+        Err(io::Error::from(ErrorKind::Unsupported))
+    }
+}
 
 /// A port for readers and customers, which may be that of other lanes too.
 #[derive(Drop)]
 pub struct Ready {
-    serving: Serving,
+    serving: Serving<NoClock>,
 }
 
 /// Where a service is to be found on this host.
@@ -28,46 +44,55 @@ pub struct Ports {
     pub staff: u16,
 }
 
-/// A port for staff, where days are closed by a till. The line `STOP` ends the service: it is a word of this port alone, and none of a
-/// session.
+/// A port for staff, where days are closed by a till. Two lines are words of this port alone, and none of a session. `STOP` ends the
+/// service. `STATS` is answered by one line, `STATS seconds=9 connections=2 connections_in_all=5 dropped=0 lines=7 accepted=3 again=1`,
+/// and then ` refused_20=1` for each number of a refusal that occurred, by rising number. It says of all lanes together:
+///
+/// - `seconds`: for how long this port has been served;
+/// - `connections`, `connections_in_all`: how many are held now, and were ever held;
+/// - `dropped`: how many were dropped as they came, for want of room or memory;
+/// - `lines`: how many replies there were in sessions, which is one to each line, and to a rest that no newline ends;
+/// - `accepted`, `again`, `refused_N`: how many of these begin with `OK`, with `AGAIN`, and with `NO N`. Only taps and corrections are
+///   answered by the first two.
 #[derive(Drop)]
 pub struct Control<E, T> {
-    serving: Serving,
+    serving: Serving<E>,
     till: T,
     ports: Ports,
-    // What says where the service is, once it is there.
-    says: E,
 }
 
 impl Ready {
-    /// A port at a listener. It ends once it is told to stop.
+    /// A port at a listener. It ends once it is told to stop. Its connections are counted in a tally, and no more are held than that has
+    /// room for.
     pub fn new<R: Net>(
         rt: &R,
         alloc: Global,
         listener: net::TcpListener,
         stop: Arc<AtomicBool>,
+        tally: Arc<Tally>,
     ) -> io::Result<Ready> {
-        let serving = Serving::new(rt, alloc, listener, stop)?;
+        let serving = Serving::new(rt, alloc, listener, stop, tally, NoClock)?;
         Ok(Ready { serving })
     }
 }
 
-impl<E: Net + Eprint + Copy, T: Till> Control<E, T> {
-    /// A port at a listener, with a till. It ends once somebody asks for the service to stop, or it is told to.
+impl<E: Net + Eprint + Clock + Copy, T: Till> Control<E, T> {
+    /// A port at a listener, with a till. It ends once somebody asks for the service to stop, or it is told to. Its connections are counted
+    /// in the tally of the other lanes, beside theirs.
     pub fn new(
         rt: E,
         alloc: Global,
         listener: net::TcpListener,
         ports: Ports,
         stop: Arc<AtomicBool>,
+        tally: Arc<Tally>,
         till: T,
     ) -> io::Result<Control<E, T>> {
-        let serving = Serving::new(&rt, alloc, listener, stop)?;
+        let serving = Serving::new(&rt, alloc, listener, stop, tally, rt)?;
         Ok(Control {
             serving,
             till,
             ports,
-            says: rt,
         })
     }
 }
@@ -103,7 +128,7 @@ impl Place for Ready {
     }
 }
 
-impl<E: Eprint + Drop, T: Till> Place for Control<E, T> {
+impl<E: Eprint + Clock + Drop, T: Till> Place for Control<E, T> {
     ghost use Rattle.pay_session.specs.declared.port.Role.TheVariants.{All};
 
     ghost asks = { All };
@@ -118,9 +143,8 @@ impl<E: Eprint + Drop, T: Till> Place for Control<E, T> {
             mut serving,
             mut till,
             ports,
-            says,
         } = self;
-        say(&says, ports);
+        say(serving.clock(), ports);
         let mut desk = LaneDesk::new(rt, alloc, lane);
         serving.serve_all(&rt, Port::open(zone), &mut desk, &mut till);
         desk.into_lane()

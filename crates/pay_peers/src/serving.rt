@@ -8,6 +8,7 @@ use crate::fate::Fate;
 use crate::limits::{LONGEST_WAIT, MOST_ACCEPTED, MOST_EVENTS, MOST_FAILURES, PIECE_BYTES};
 use crate::peer::Peer;
 use crate::peers::Peers;
+use crate::tally::{Seat, Tally};
 use crate::word::Word;
 use mio::net::{TcpListener, TcpStream};
 use mio::{Events, Interest, Poll, Token};
@@ -18,7 +19,7 @@ use std::alloc::Global;
 use std::net::Net;
 use std::sync::atomic::{AtomicBool, Ordering};
 use std::sync::{Arc, Wait};
-use std::time::Duration;
+use std::time::{Clock, Duration, Instant};
 use std::{io, net};
 
 /// The token of the listener. That of a connection is its place and one more.
@@ -26,7 +27,7 @@ const LISTENER: usize = 0;
 
 /// A port, with the connections that came there to one lane.
 #[derive(Drop)]
-pub struct Serving {
+pub struct Serving<C> {
     alloc: Global,
     listener: TcpListener,
     poll: Poll,
@@ -35,6 +36,10 @@ pub struct Serving {
     buffer: Vec<u8>,
     // What tells the service to stop.
     stop: Arc<AtomicBool>,
+    tally: Arc<Tally>,
+    clock: C,
+    // When it began to serve, if the clock could tell.
+    began: Option<Instant>,
     // How often in a row it failed to wait.
     failures: u32,
 }
@@ -46,14 +51,16 @@ fn register(poll: &Poll, stream: &mut TcpStream, place: usize) -> io::Result<()>
         .register(stream, token, Interest::READABLE | Interest::WRITABLE)
 }
 
-impl Serving {
+impl<C: Clock + Copy> Serving<C> {
     /// A port at a listener. It ends once it is told to stop.
     pub fn new<R: Net>(
         rt: &R,
         alloc: Global,
         listener: net::TcpListener,
         stop: Arc<AtomicBool>,
-    ) -> io::Result<Serving> {
+        tally: Arc<Tally>,
+        clock: C,
+    ) -> io::Result<Serving<C>> {
         listener.set_nonblocking(true)?;
         let mut listener = TcpListener::from_std(listener);
         let poll = Poll::new(rt)?;
@@ -67,8 +74,29 @@ impl Serving {
             peers: Peers::new(alloc)?,
             buffer: Vec::from_elem(alloc, 0, PIECE_BYTES)?,
             stop,
+            tally,
+            clock,
+            began: None,
             failures: 0,
         })
+    }
+}
+
+impl<C: Clock> Serving<C> {
+    /// The clock that it was given.
+    pub fn clock(&self) -> &C {
+        &self.clock
+    }
+
+    /// For how many seconds it has served.
+    fn seconds(&self) -> u64 {
+        let Some(began) = self.began else {
+            return 0;
+        };
+        match began.elapsed(&self.clock) {
+            Ok(time) => time.as_secs(),
+            Err(_) => 0,
+        }
     }
 
     /// Tells the whole service to stop.
@@ -77,22 +105,25 @@ impl Serving {
     }
 
     /// Holds a connection, if there is room.
-    fn hold(&mut self, stream: TcpStream) -> Option<()> {
-        let place = self.peers.next_place()?;
+    fn hold(&mut self, stream: TcpStream, role: Role) -> Option<()> {
+        let seat = Seat::take(&self.tally, role)?;
         // A reply is not held back for the next one.
         let _ = stream.set_nodelay(true);
         let mut stream = stream;
-        register(&self.poll, &mut stream, place).ok()?;
-        self.peers.hold(Peer::new(self.alloc, stream))
+        register(&self.poll, &mut stream, self.peers.next_place()).ok()?;
+        self.peers.hold(Peer::new(self.alloc, stream, seat))
     }
 
     /// Holds the connections that wait, as far as they come, and drops those for which there is no room.
-    fn accept(&mut self) {
+    fn accept(&mut self, role: Role) {
         for _ in 0..MOST_ACCEPTED {
             let Ok((stream, _)) = self.listener.accept() else {
                 return;
             };
-            let _ = self.hold(stream);
+            match self.hold(stream, role) {
+                Some(()) => self.tally.count_held(),
+                None => self.tally.count_dropped(),
+            }
         }
     }
 
@@ -105,6 +136,10 @@ impl Serving {
             (Role::All, Word::Stop) => {
                 self.stop();
                 self.peers.at(place)?.say_bye()
+            }
+            (Role::All, Word::Stats) => {
+                let line = self.tally.line(self.alloc, self.seconds()).ok()?;
+                self.peers.at(place)?.say(line.as_bytes())
             }
         }
     }
@@ -196,7 +231,7 @@ impl Serving {
             return;
         }
         // Each time, since one that was not taken is not told of again.
-        self.accept();
+        self.accept(port.role);
         self.queue_ready();
         self.serve_queued(port, desk, till);
     }
@@ -222,6 +257,7 @@ impl Serving {
         ensures asked { AreAskedAt port.entry.zone.now port.entry.role (D.parts desk.old).taken (D.parts desk.new).taken }
     {
         pay_session::laws::piece_by_piece();
+        self.began = Instant::now(&self.clock).ok();
         for _ in rt.forever() {
             if self.stop.load(Ordering::SeqCst) {
                 break;

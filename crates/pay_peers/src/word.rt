@@ -10,6 +10,8 @@ use std::marker::Model;
 pub enum Word {
     /// `STOP`: that it ends.
     Stop,
+    /// `STATS`: what it has done.
+    Stats,
 }
 
 /// The word that a line is at a port. As in a session every byte counts, a carriage return too.
@@ -21,12 +23,13 @@ fn word_at(role: Role, line: &[u8]) -> Option<Word>
         Role::Taps => None,
         Role::All => match line {
             b"STOP" => Some(Word::Stop),
+            b"STATS" => Some(Word::Stats),
             _ => None,
         },
     }
 }
 
-/// How many bytes of a line are kept: more than a word has, so that a longer line shows.
+/// How many bytes of a line are kept: one more than a word has, so that a longer line shows.
 const KEPT_BYTES: usize = 6;
 
 /// The line that is being read, as much of it as is kept.

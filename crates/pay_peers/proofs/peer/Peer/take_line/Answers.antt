@@ -1,5 +1,5 @@
 use Rattle.std.proofs.Common.{◌≡◌, ◌-◌, length, take, drop, ◌∙◌, sym, ap, arith, rules}
-use Rattle.pay_peers.proofs.FirstWords.{line_is_taken, rest_is_taken, none_from}
+use Rattle.pay_peers.proofs.FirstWords.{line_is_taken, rest_is_taken, line_first, none_from}
 use Rattle.pay_peers.proofs.peer.Peer.take_line.Goals as goal
 
 pub returns-in_default-clause-taken : goal.returns-in_default-clause-taken
@@ -17,3 +17,12 @@ returns-clause-taken g c =
     line_is_taken c.args.port.role c.args.self.now.begun c.args.bytes.now c.in-Some.text.now c.in-Some.behind.now _ _ (search rules) (search rules)
     (none_from c.finish-word.result (sym c.is_some.ensures ∙ c.if-is_some.false) ∙ c.finish-word.ensures.word)
     (c.in_ok-answer-2.ensures.begun ∙ c.finish-word.ensures.anew)
+
+pub returns-clause-answered : goal.returns-clause-answered
+returns-clause-answered g c none lasts =
+    let bytes = c.args.bytes.now in
+    record {
+      front = take (length bytes - length c.in-Some.behind.now) bytes;
+      cut = line_first bytes c.in-Some.text.now c.in-Some.behind.now (search rules);
+      takes = c.in_ok-answer-2.ensures.answered lasts;
+    }
