@@ -245,25 +245,25 @@ The lines, the journal and the faults are described in docs/FORMATS.md.";
 pub const BELOW_SERVE: &str = "\
 A service has one of two forms. With --sessions K and --close DAY it ends: each lane serves K
 connections, and then DAY is closed. With --control C it stays until its staff stop it. All ports
-are of 127.0.0.1 alone. On a connection lines come in, and the reply to each goes out. Each lane
-serves its connections one after another, in a thread of its own. The accounts are spread over N
-shards, each in a thread of its own. With --journal FOLDER the lines that were accepted before are
-taken first.
+are of 127.0.0.1 alone. On a connection lines come in, and the reply to each goes out. Each lane has
+a thread of its own, and so has each of the N shards that the accounts are spread over. With
+--journal FOLDER the lines that were accepted before are taken first.
 
-A service that ends: lane l, from 0 to L - 1, listens on port P + l. A CLOSE is refused by 34. When
-all connections of all lanes have ended, DAY is closed, the lines of that close are printed, and
-the program ends. With --ledger FILE the day is closed into a file, if it is over by this machine's
-clock or --early is given. With --journal and without --ledger it is not closed: its refusal by 34
-is printed, and the status is 1. Without --ledger, --early does nothing.
+A service that ends: lane l, from 0 to L - 1, listens on port P + l, and serves its connections one
+after another. A CLOSE is refused by 34. When all connections of all lanes have ended, DAY is
+closed, the lines of that close are printed, and the program ends. With --ledger FILE the day is
+closed into a file, if it is over by this machine's clock or --early is given. With --journal and
+without --ledger it is not closed: its refusal by 34 is printed, and the status is 1. Without
+--ledger, --early does nothing.
 
 Example: two lanes, on ports 9000 and 9001, serve a connection each, and day 19730 is closed.
   $ farebox serve examples/bus.toml GMT0BST,M3.5.0/1,M10.5.0 --port 9000 --lanes 2 --shards 4 \\
       --sessions 1 --close 19730
 
-A service that stays: all lanes listen on port P, and each serves one connection after another.
-Port C is for staff. CLOSE and FIX are taken there, and STOP, which ends the service; at P, CLOSE
-and FIX are refused by 34. --journal FOLDER and --ledger FILE have to be given: days are closed into
-that file, if they are over by this machine's clock or --early is given.
+A service that stays: all lanes listen on port P, and hold as many connections as come. CLOSE and
+FIX are refused by 34 there, and taken at port C, as are STATS, which is answered by what the
+service has counted, and STOP, which ends it. --journal FOLDER and --ledger FILE have to be given:
+days are closed into that file, if they are over by this machine's clock or --early is given.
 
 Example: two lanes serve port 9000, and staff close days at port 9100.
   $ farebox serve FARES ZONE --port 9000 --lanes 2 --shards 4 --control 9100 \\
