@@ -8,14 +8,16 @@ ghost use Rattle.pay_shard.specs.declared.desk.DeskFault.TheVariants.{Busy, Late
 ghost use Rattle.pay_office.specs.Waits.{commands_sent, NoneIsHidden};
 ghost use Rattle.pay_office.specs.LaneDesks.{desk_parts, refusal_of, MayRefuse, WasBusy, HasNoReply};
 
-use crate::waiting::{AllWaiting, Waiting, take_all, take_out, take_until};
+use crate::limits::LAST_RESTS;
+use crate::waiting::{AllWaiting, Patience, Waiting, take_all, take_out, take_until};
 use arrayvec::ArrayVec;
 use pay_lanes::{Lane, SendFault};
 use pay_shard::{Answer, Command, Desk, DeskFault, Reply, Ticket};
 use std::alloc::Global;
 use std::marker::Model;
 use std::snapshot::Snapshot;
-use std::sync::Wait;
+use std::sync::atomic::AtomicBool;
+use std::sync::{Arc, Wait};
 
 /// A desk over a lane: it sends each command to the shard that answers it, and keeps what comes for its own `get`. At most 16
 /// commands wait. In a contract it is the lane as it was when the desk began, the lane as it is, and the tickets that wait.
@@ -25,6 +27,9 @@ pub struct LaneDesk<R: Wait + Copy> {
     lane: Lane,
     began: Snapshot<Lane>,
     waiting: AllWaiting,
+    // What tells it to wait no longer, if something does, and how often it rests then.
+    told: Option<Arc<AtomicBool>>,
+    last_rests: u32,
 }
 
 impl<R: Wait + Copy> Model for LaneDesk<R> {
@@ -53,6 +58,19 @@ impl<R: Wait + Copy> LaneDesk<R> {
             began: Snapshot::of(&lane),
             lane,
             waiting: ArrayVec::new_in(alloc),
+            told: None,
+            last_rests: LAST_RESTS,
+        }
+    }
+
+    /// The same desk, for which a reply is late soon, once it is told so: the first a tenth of a second after it began to wait, and then
+    /// each that has not come.
+    pub fn until(self, told: Arc<AtomicBool>) -> LaneDesk<R>
+        ensures { result ≡ self }
+    {
+        LaneDesk {
+            told: Some(told),
+            ..self
         }
     }
 
@@ -130,8 +148,19 @@ impl<R: Wait + Copy> Desk for LaneDesk<R> {
         ensures transcript { NothingIsLost (desk_parts self.old).transcript (desk_parts self.new).transcript }
     {
         pay_lanes::laws::same_lanes();
-        take_until(&self.rt, &mut self.lane, &mut self.waiting, ticket.number());
+        let patience = Patience {
+            told: self.told.as_deref(),
+            rests: self.last_rests,
+        };
+        take_until(
+            &self.rt,
+            &mut self.lane,
+            &mut self.waiting,
+            ticket.number(),
+            patience,
+        );
         let Some(Answer { reply, .. }) = take_out(&mut self.waiting, ticket.number()) else {
+            self.last_rests = 0;
             return Err(DeskFault::Late);
         };
         Ok(reply)

@@ -8,6 +8,8 @@ pub const MOST_WAITING: usize = WINDOW as usize;
 pub const LOOKS: u32 = 100;
 /// How often a desk that waits for a reply rests, until the reply is late.
 pub const RESTS: u32 = 10_000;
+/// How often it rests, once it is told to wait no longer, until the first reply is late then.
+pub const LAST_RESTS: u32 = 100;
 /// How long such a rest is at most, in milliseconds, if no answer is sent sooner.
 pub const DESK_REST: u64 = 1;
 /// How long a worker rests at most, in milliseconds, if no entry is sent sooner: so long it may take to see that it is to stop.

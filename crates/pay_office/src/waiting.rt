@@ -14,6 +14,7 @@ use pay_shard::{Answer, Asked, Command};
 use std::alloc::Global;
 use std::default::MadeWith;
 use std::sync::Wait;
+use std::sync::atomic::{AtomicBool, Ordering};
 use std::thread;
 use std::time::Duration;
 
@@ -115,8 +116,33 @@ fn pause<R: Wait>(rt: &R, lane: &mut Lane, looks: u32)
     }
 }
 
-/// Takes what comes to a lane until the command under a ticket has its answer, or that is late.
-pub(crate) fn take_until<R: Wait>(rt: &R, lane: &mut Lane, waiting: &mut AllWaiting, ticket: u64)
+/// How long a desk waits for a reply: until it is late, or not so long, where something tells it so.
+#[derive(Clone, Copy)]
+pub(crate) struct Patience<'a> {
+    /// What tells it, if something does.
+    pub told: Option<&'a AtomicBool>,
+    /// How often it rests then.
+    pub rests: u32,
+}
+
+impl Patience<'_> {
+    /// Whether it is told, and has looked often enough.
+    fn is_over(&self, looks: u32) -> bool {
+        match self.told {
+            Some(told) => looks >= LOOKS.saturating_add(self.rests) && told.load(Ordering::SeqCst),
+            None => false,
+        }
+    }
+}
+
+/// Takes what comes to a lane until the command under a ticket has its answer, or that is late, or the desk has waited long enough.
+pub(crate) fn take_until<R: Wait>(
+    rt: &R,
+    lane: &mut Lane,
+    waiting: &mut AllWaiting,
+    ticket: u64,
+    patience: Patience<'_>,
+)
     requires { AreWaiting lane.old waiting.old.items }
     ensures lane { HasTaken lane.old lane.new }
     ensures same { IsSameLane lane.old lane.new }
@@ -126,7 +152,7 @@ pub(crate) fn take_until<R: Wait>(rt: &R, lane: &mut Lane, waiting: &mut AllWait
     pay_lanes::laws::same_lanes();
     for looks in 0..LOOKS + RESTS {
         take_all(rt, lane, waiting);
-        if is_answered(waiting, ticket) {
+        if is_answered(waiting, ticket) || patience.is_over(looks) {
             return;
         }
         pause(rt, lane, looks);

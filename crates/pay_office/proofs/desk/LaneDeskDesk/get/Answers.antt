@@ -17,8 +17,8 @@ invariant_of-self g c =
       waits = waiting_left _ c.take_until.new.lane c.take_until.new.waiting.items c.take_out.new.waiting.items c.take_until.ensures.waiting c.take_out.ensures.rest;
     }
 
-pub invariant_of-self-2 : goal.invariant_of-self-2
-invariant_of-self-2 g c =
+pub invariant_of-self-in_default : goal.invariant_of-self-in_default
+invariant_of-self-in_default g c =
     let many = c.same_lanes.ensures.shards c.self.inside.lane c.take_until.new.lane c.take_until.ensures.same in record {
       same = c.same_lanes.ensures.then c.self.inside.began.value c.self.inside.lane c.take_until.new.lane c.self.invariant.same c.take_until.ensures.same;
       some = subst (λ n. 1 ≤ n) (sym many) c.self.invariant.some;
