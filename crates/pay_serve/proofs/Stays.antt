@@ -11,7 +11,7 @@ use Rattle.pay_serve.specs.KeepingGates.{GateParts}
 use Rattle.pay_serve.specs.Kept.{HasKeptNone}
 use Rattle.pay_serve.specs.Lanes.{HasAskedAt, lane_fault}
 use Rattle.pay_serve.specs.LeftGates.{AreAllGates, AreUnserved}
-use Rattle.pay_serve.specs.Causes.{IsUnserved}
+use Rattle.pay_serve.specs.Causes.{IsStayCause, IsUnserved}
 use Rattle.pay_serve.specs.Stays.{IsStayed}
 use Rattle.pay_serve.specs.declared.begins.LaneFault.{LaneFault}
 use Rattle.pay_serve.specs.declared.begins.LaneFault.TheVariants as lane
@@ -47,6 +47,19 @@ one_asked port count l k new same asked =
     All-head (HasAskedAt port) k [] all
 
 -- ---- why nobody is served
+
+pub unserved_stay_cause : (Fails : Type 0) (plan : Plan) (fault : ServeFault) → IsUnserved plan fault → IsStayCause Fails plan fault
+unserved_stay_cause Fails plan CannotListen h = h
+unserved_stay_cause Fails plan Count h = h
+unserved_stay_cause Fails plan NoThread h = h
+unserved_stay_cause Fails plan Memory h = h
+unserved_stay_cause Fails plan (JournalLine journal line why) h = h
+unserved_stay_cause Fails plan Journal h = absurd h
+unserved_stay_cause Fails plan Output h = h
+
+pub lane_stay_cause : (Fails : Type 0) (plan : Plan) (from : LaneFault) (fault : ServeFault) → fault ≡ lane_fault from → IsStayCause Fails plan fault
+lane_stay_cause Fails plan lane.NoThread fault is = subst (IsStayCause Fails plan) (sym is) tt
+lane_stay_cause Fails plan lane.Memory fault is = subst (IsStayCause Fails plan) (sym is) tt
 
 module _ (Holds : GateParts → List Passed → Bool → Type 0) (who : Role × Role) (terms : Terms) (gates : List GateParts) where
   pub unopened_stays : (plan : Plan) (fault : ServeFault) → gates ≡ [] → IsUnopened plan fault → IsStayed Holds who terms gates (Err fault)

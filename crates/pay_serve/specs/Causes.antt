@@ -48,3 +48,8 @@ abbrev pub IsServeCause : {W : Type 0} → (W → WriterCall → W → Type 0) �
 IsServeCause writes Fails plan Output writer = HasFault writes writer
 IsServeCause writes Fails plan Journal writer = Fails
 IsServeCause writes Fails plan fault writer = IsUnserved plan fault
+
+-- The same of a service that stays, which writes nothing.
+abbrev pub IsStayCause : Type 0 → Plan → ServeFault → Type 0
+IsStayCause Fails plan Journal = Fails
+IsStayCause Fails plan fault = IsUnserved plan fault

@@ -32,7 +32,7 @@ pub use gate::KeepingGate;
 pub use given::Given;
 pub use journals::{take_again, take_through};
 pub use lanes::{begin_lanes, serve_lanes};
-pub use listening::listen;
+pub use listening::{listen, listen_on};
 pub use place::Place;
 pub use plan::Plan;
 pub use served_lanes::ServedLanes;

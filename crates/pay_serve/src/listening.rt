@@ -20,15 +20,12 @@ fn port_of(plan: &Plan, lane: u8) -> Result<u16, ServeFault>
     }
 }
 
-/// Where a lane listens: on its port of this host alone, 127.0.0.1.
-fn address_of(plan: &Plan, lane: u8) -> Result<SocketAddr, ServeFault>
-    ensures host { IfOk result (λ address. IsThisHost (socket_ip address)) }
-    ensures port { IfOk result (λ address. socket_port address ≡ plan.now.port + lane) }
-    ensures refused { OnErr result (u16.MAX < plan.now.port + lane) }
-    ensures fault { IfErr result (λ fault. fault ≡ ServeFault.CannotListen) }
+/// Where a port of this host alone is, 127.0.0.1.
+fn address_of(port: u16) -> SocketAddr
+    ensures host { IsThisHost (socket_ip result) }
+    ensures port { socket_port result ≡ port }
 {
-    let port = port_of(plan, lane)?;
-    Ok(SocketAddr::new(IpAddr::V4(Ipv4Addr::LOCALHOST), port))
+    SocketAddr::new(IpAddr::V4(Ipv4Addr::LOCALHOST), port)
 }
 
 /// Listens at an address of this host alone.
@@ -42,6 +39,13 @@ fn listen_at<R: Net>(rt: &R, address: SocketAddr) -> Result<R::Listener, ServeFa
     }
 }
 
+/// Listens on a port of this host alone.
+pub fn listen_on<R: Net>(rt: &R, port: u16) -> Result<R::Listener, ServeFault>
+    ensures { IfErr result (λ fault. fault ≡ ServeFault.CannotListen) }
+{
+    listen_at(rt, address_of(port))
+}
+
 /// Listens on a port of this host for each lane, in order. Where one is not to be had, none is kept.
 pub fn listen<R: Net>(rt: &R, alloc: Global, plan: &Plan) -> Result<Vec<R::Listener>, ServeFault>
     ensures count { IfOk result (λ listeners. length listeners.items ≡ plan.now.lanes) }
@@ -49,7 +53,7 @@ pub fn listen<R: Net>(rt: &R, alloc: Global, plan: &Plan) -> Result<Vec<R::Liste
 {
     let mut listeners = Vec::with_capacity(alloc, plan.lanes as usize)?;
     for lane in 0..plan.lanes {
-        let listener = listen_at(rt, address_of(plan, lane)?)?;
+        let listener = listen_on(rt, port_of(plan, lane)?)?;
         listeners.push_reserved(listener);
     }
     Ok(listeners)

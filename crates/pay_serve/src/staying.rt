@@ -1,5 +1,7 @@
 //! A service that stays for as long as one lane does.
-ghost use Rattle.std.specs.Prelude.{◌≡◌, ◌+◌, [], length};
+ghost use Rattle.std.specs.Prelude.{◌≡◌, ◌+◌, [], length, IfErr, OnOk};
+ghost use Rattle.pay_journal.specs.Words.{CanFail};
+ghost use Rattle.pay_serve.specs.Causes.{IsOutOfPlan, IsStayCause};
 ghost use Rattle.pay_serve.specs.Closes.{terms_of};
 ghost use Rattle.pay_serve.specs.KeepingGates.{HoldsPassed};
 ghost use Rattle.pay_serve.specs.Stays.{IsStayed};
@@ -43,7 +45,9 @@ where
     requires keepers { length given.keepers.items ≡ given.plan.shards }
     requires places { length places.items + 1 ≡ given.plan.lanes }
     requires empty { gates.old.items ≡ [] }
-    ensures { IsStayed (HoldsPassed K.holds K.HasFailed K.IsSettled) (P.asks, C.asks) (terms_of K.Keeper given.entry) gates.new.items result }
+    ensures stayed { IsStayed (HoldsPassed K.holds K.HasFailed K.IsSettled) (P.asks, C.asks) (terms_of K.Keeper given.entry) gates.new.items result }
+    ensures within { OnOk result (IsOutOfPlan given.entry.plan → ⊥) }
+    ensures cause { IfErr result (IsStayCause (CanFail K.HasFailed) given.entry.plan) }
 {
     pay_lanes::laws::still_together();
     pay_lanes::laws::same_lanes();

@@ -2,6 +2,7 @@ use Rattle.std.proofs.Common.{◌≡◌, ◌∷◌, [], ◌++◌, All, map, vec_
 use Rattle.std.specs.List.{AllZip}
 use Rattle.std.proofs.lemmas.Slice.Zip.{AllZip-long}
 use Rattle.jiff.specs.declared.tz.timezone.TimeZone.{TimeZone}
+use Rattle.pay_journal.specs.Words.{CanFail}
 use Rattle.pay_session.specs.declared.port.Role.{Role}
 use Rattle.pay_lanes.specs.Words.{IsNewLane, IsSameLane}
 use Rattle.pay_serve.specs.KeepingGates.{HoldsPassed}
@@ -14,7 +15,7 @@ use Rattle.pay_serve.proofs.LinesAsked.{all_same, all_asked}
 use Rattle.pay_serve.proofs.NoneKept.{none_kept}
 use Rattle.pay_serve.proofs.ServeCauses.{line_stopped, taken_cause}
 use Rattle.pay_serve.proofs.Served.{all_kept}
-use Rattle.pay_serve.proofs.Stays.{others_are, last_is, all_gone_on, one_asked, refused_stays, lane_stays}
+use Rattle.pay_serve.proofs.Stays.{others_are, last_is, all_gone_on, one_asked, refused_stays, lane_stays, unserved_stay_cause, lane_stay_cause}
 use Rattle.pay_serve.proofs.staying.stay.Goals as goal
 
 -- a line was not accepted, and no lane was served
@@ -23,8 +24,8 @@ end-requires-clause-all g c =
     all_back c.still_together.ensures.in_order c.same_workers.ensures.itself c.in_ok-office.office c.in_ok-office.lanes.items c.in_ok-office.lanes.items c.in_ok-office.first c.take_through-taken.result.1
     (lanes_same c.same_lanes.ensures.itself c.in_ok-office.lanes.items) c.take_through-taken.ensures.same c.in_ok-office.ensures.all
 
-pub returns-in-Err : goal.returns-in-Err
-returns-in-Err g c =
+pub returns-in-Err-clause-stayed : goal.returns-in-Err-clause-stayed
+returns-in-Err-clause-stayed g c =
     let K = g.K.Keeper in
     let opened = c.in_ok-office.ensures in
     let ls = c.in_ok-office.lanes.items in
@@ -55,8 +56,15 @@ end-requires-in-Err-begin_lanes-clause-all g c =
     all_back c.still_together.ensures.in_order c.same_workers.ensures.itself c.in_ok-office.office ls c.push_reserved.new.self.items c.in_ok-office.first c.take_through-taken.result.1
     (subst (AllZip IsSameLane ls) (sym same) (lanes_same c.same_lanes.ensures.itself ls)) c.take_through-taken.ensures.same c.in_ok-office.ensures.all
 
-pub returns-in-Err-begin_lanes : goal.returns-in-Err-begin_lanes
-returns-in-Err-begin_lanes g c =
+pub returns-in-Err-clause-cause : goal.returns-in-Err-clause-cause
+returns-in-Err-clause-cause g c = unserved_stay_cause (CanFail g.K.Keeper.HasFailed) c.args.given.plan c.in-Err.fault
+    (taken_cause _ _ c.args.given.plan 0 _ _ c.take_through-taken.result.0 c.in-Err.fault c.take_through-taken.ensures.taken.taken c.in-Err.is)
+
+pub returns-in-Err-begin_lanes-clause-cause : goal.returns-in-Err-begin_lanes-clause-cause
+returns-in-Err-begin_lanes-clause-cause g c = lane_stay_cause (CanFail g.K.Keeper.HasFailed) c.args.given.plan c.in-Err-begin_lanes.fault _ c.from.ensures
+
+pub returns-in-Err-begin_lanes-clause-stayed : goal.returns-in-Err-begin_lanes-clause-stayed
+returns-in-Err-begin_lanes-clause-stayed g c =
     let K = g.K.Keeper in
     let opened = c.in_ok-office.ensures in
     let ls = c.in_ok-office.lanes.items in
@@ -104,8 +112,8 @@ end-requires-in-Ok-begin_lanes-clause-all g c =
     c.take_through-taken.ensures.same c.in_ok-office.ensures.all)
 
 -- the service has ended, and a gate could not keep something, or all could
-pub returns-then-is_one_stuck : goal.returns-then-is_one_stuck
-returns-then-is_one_stuck g c =
+pub returns-then-is_one_stuck-clause-stayed : goal.returns-then-is_one_stuck-clause-stayed
+returns-then-is_one_stuck-clause-stayed g c =
     let K = g.K.Keeper in
     let opened = c.in_ok-office.ensures in
     let port : TimeZone × Role = (c.args.given.zone, g.P.Place.asks) in
@@ -136,8 +144,11 @@ returns-then-is_one_stuck g c =
       ap is_one_stuck (sym c.deref.ensures.value) ∙ (sym c.is_one_stuck.ensures.value ∙ c.if-is_one_stuck.true),
     )
 
-pub returns-else-is_one_stuck : goal.returns-else-is_one_stuck
-returns-else-is_one_stuck g c =
+pub returns-then-is_one_stuck-clause-cause : goal.returns-then-is_one_stuck-clause-cause
+returns-then-is_one_stuck-clause-cause g c = c.is_one_stuck.ensures.cause c.if-is_one_stuck.true
+
+pub returns-else-is_one_stuck-clause-stayed : goal.returns-else-is_one_stuck-clause-stayed
+returns-else-is_one_stuck-clause-stayed g c =
     let K = g.K.Keeper in
     let opened = c.in_ok-office.ensures in
     let port : TimeZone × Role = (c.args.given.zone, g.P.Place.asks) in
