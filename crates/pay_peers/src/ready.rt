@@ -3,7 +3,7 @@
 use crate::serving::Serving;
 use crate::tally::Tally;
 use jiff::tz::TimeZone;
-use pay_office::{Lane, LaneDesk};
+use pay_office::Lane;
 use pay_serve::Place;
 use pay_session::{Port, Role};
 use pay_till::{NoTill, Till};
@@ -122,7 +122,7 @@ impl Place for Ready {
             latest: None,
         };
         let mut serving = self.serving;
-        let mut desk = LaneDesk::new(rt, alloc, lane);
+        let mut desk = serving.desk(rt, alloc, lane);
         serving.serve_all(&rt, port, &mut desk, &mut NoTill);
         desk.into_lane()
     }
@@ -145,7 +145,7 @@ impl<E: Eprint + Clock + Drop, T: Till> Place for Control<E, T> {
             ports,
         } = self;
         say(serving.clock(), ports);
-        let mut desk = LaneDesk::new(rt, alloc, lane);
+        let mut desk = serving.desk(rt, alloc, lane);
         serving.serve_all(&rt, Port::open(zone), &mut desk, &mut till);
         desk.into_lane()
     }

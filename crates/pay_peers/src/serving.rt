@@ -1,5 +1,6 @@
 //! A port, with the connections that came there to one lane.
-ghost use Rattle.std.specs.Prelude.{◌≡◌};
+ghost use Rattle.std.specs.Prelude.{◌≡◌, []};
+ghost use Rattle.pay_serve.specs.Words.{HasShards};
 ghost use Rattle.pay_session.specs.Words.{AreAskedAt};
 ghost use Rattle.pay_peers.specs.declared.word.Word.{Word};
 ghost use Rattle.pay_session.specs.declared.port.Role.TheVariants as roles;
@@ -12,6 +13,7 @@ use crate::tally::{Seat, Tally};
 use crate::word::Word;
 use mio::net::{TcpListener, TcpStream};
 use mio::{Events, Interest, Poll, Token};
+use pay_office::{Lane, LaneDesk};
 use pay_session::{Port, Role};
 use pay_shard::Desk;
 use pay_till::Till;
@@ -86,6 +88,18 @@ impl<C: Clock> Serving<C> {
     /// The clock that it was given.
     pub fn clock(&self) -> &C {
         &self.clock
+    }
+
+    /// A desk over a lane, for which a reply is late soon, once the service is told to stop: its shard may keep nothing any more.
+    pub fn desk<R: Wait + Copy>(&self, rt: R, alloc: Global, lane: Lane) -> LaneDesk<R>
+        requires { HasShards lane }
+        ensures { result ≡ record { began = lane; lane = lane; waiting = [] } }
+    {
+        let desk = LaneDesk::new(rt, alloc, lane);
+        match Arc::clone(&self.stop) {
+            Ok(told) => desk.until(told),
+            Err(_) => desk,
+        }
     }
 
     /// For how many seconds it has served.
