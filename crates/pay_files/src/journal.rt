@@ -14,6 +14,8 @@ use std::alloc::{AllocError, Global};
 use std::fs::{File, Files, OpenOptions};
 use std::io::{Eprint, ErrorKind, Read};
 use std::os::unix::fs::OpenOptionsExt;
+use std::sync::Arc;
+use std::sync::atomic::AtomicBool;
 use std::{fs, io};
 
 /// How many journals a folder has: one for each shard that a service may have.
@@ -34,6 +36,8 @@ pub struct JournalFiles<R> {
     pub keepers: Vec<ReportingKeeper<LineKeeper<File>, R>>,
     /// The others, which no other session has while they are open.
     pub others: Vec<File>,
+    /// What is told where one of the keepers fails.
+    pub failed: Arc<AtomicBool>,
 }
 
 /// A journal that is open.
@@ -91,6 +95,7 @@ fn all_opened<R: Files<File = File> + Eprint + AllocGlobal + Copy>(
         texts: Vec::new(rt.alloc()),
         keepers: Vec::new(rt.alloc()),
         others: Vec::new(rt.alloc()),
+        failed: Arc::new(rt.alloc(), AtomicBool::new(false)).map_err(AllocError::from)?,
     };
     for number in 0..shards {
         let path = path_in(rt.alloc(), folder, u64::from(number))?;
@@ -121,7 +126,12 @@ impl<R: Eprint + Copy> JournalFiles<R> {
         ensures others { OnOk result (self.new.others ≡ self.old.others) }
     {
         let keeper = LineKeeper::begin(file, whole_bytes(past.as_slice()), false);
-        let keeper = ReportingKeeper { keeper, rt, path };
+        let keeper = ReportingKeeper {
+            keeper,
+            rt,
+            path,
+            failed: Arc::clone(&self.failed)?,
+        };
         self.texts.push(past).map_err(AllocError::from)?;
         self.keepers.push(keeper).map_err(AllocError::from)?;
         Ok(())

@@ -2,9 +2,11 @@
 
 use pay_jobs::{Command, Keeper, NotKept};
 use std::io::Eprint;
+use std::sync::Arc;
+use std::sync::atomic::{AtomicBool, Ordering};
 
 /// Keeps what a keeper does. Where that fails, standard error has the path of its file at once: what its shard is asked is not accepted
-/// any more, while the service goes on.
+/// any more. A service that stays ends then; any other goes on.
 #[derive(Drop)]
 pub struct ReportingKeeper<K, R> {
     /// What keeps lines.
@@ -13,6 +15,8 @@ pub struct ReportingKeeper<K, R> {
     pub rt: R,
     /// The path of the file.
     pub path: String,
+    /// What is told that it failed.
+    pub failed: Arc<AtomicBool>,
 }
 
 impl<K: Keeper, R: Eprint + Copy> ReportingKeeper<K, R> {
@@ -20,6 +24,7 @@ impl<K: Keeper, R: Eprint + Copy> ReportingKeeper<K, R> {
     fn report(&self) {
         let (rt, path) = (&self.rt, self.path.as_str());
         let _ = eprintln!(rt; "farebox: cannot keep lines in {path}");
+        self.failed.store(true, Ordering::SeqCst);
     }
 }
 
