@@ -1,28 +1,49 @@
 -- How a service that stays ends, by its fare file, its zone and its journals, and by the ledger that is opened for it.
-use Rattle.std.specs.Prelude.{◌≡◌, ◌⊎◌, List, Ok, Err, codes}
+use Rattle.std.proofs.Common.{arith, inl, inr}
+use Rattle.std.specs.Prelude.{◌≡◌, ◌⊎◌, ◌+◌, ℕ, ⊤, List, Ok, Err, codes}
 use Rattle.sqlite.specs.Held.{Held}
 use Rattle.sqlite.specs.Store.{Ghosts}
 use Rattle.pay_journal.specs.declared.keeper.Keeper.{Ghosts as Keeping}
 use Rattle.pay_session.specs.declared.port.Role.TheVariants.{Taps, All}
-use Rattle.pay_serve.specs.Words.{GateParts, HoldsPassed, Terms, IsStayed}
+use Rattle.pay_serve.specs.Words.{GateParts, HoldsPassed, IsOutOfPlan, Terms, IsStayed}
 use Rattle.pay_serve.specs.declared.fault.ServeFault.{ServeFault}
+use Rattle.pay_serve.specs.declared.plan.Plan.{Plan}
 use Rattle.pay_jobs.specs.Words.{IsRefusal, IsWantOfMemory}
 use Rattle.pay_jobs.specs.declared.fault.Fault.{Fault}
-use Rattle.pay_jobs.specs.declared.fault.Fault.TheVariants.{CannotListen}
+use Rattle.pay_jobs.specs.declared.fault.Fault.TheVariants.{CannotListen, Journal, Refused}
 use Rattle.pay_serve_job.specs.Service.{IsServeFault, IsTakenBy, IsNotTakenBy}
 
--- a port is not to be had, or there are too many lanes, or memory was wanting
+-- a plan with the lane of staff, beside those of everybody
+abbrev pub with_staff : Plan → Plan
+with_staff plan = record plan { lanes = plan.lanes + 1 }
+
+-- fourteen lanes may be everybody's, and not fifteen
+most_lanes : (port : ℕ) → IsOutOfPlan (with_staff (record { port = port; lanes = 14; shards = 16; sessions = 0; close = 0 })) → ⊥
+most_lanes port (inl none) = absurd (omega (arith, none))
+most_lanes port (inr (inl many)) = absurd (omega (arith, many))
+most_lanes port (inr (inr many)) = absurd (omega (arith, many))
+
+a_lane_more : (port : ℕ) → IsOutOfPlan (with_staff (record { port = port; lanes = 15; shards = 16; sessions = 0; close = 0 }))
+a_lane_more port = inr (inr (omega arith))
+
+-- With whether something may not be kept: a journal fault comes only where a keeper may fail, and 32 only from the counts of the plan.
+abbrev pub HasStayCause : Type 0 → Plan → Fault → Type 0
+HasStayCause Fails plan Journal = Fails
+HasStayCause Fails plan (Refused number name) = number ≡ 32 → IsOutOfPlan (with_staff plan)
+HasStayCause Fails plan _ = ⊤
+
+-- a port is not to be had, or memory was wanting
 abbrev pub IsNoPort : Fault → Type 0
-IsNoPort fault = (fault ≡ CannotListen) ⊎ IsRefusal fault 32 (codes "Count") ⊎ IsWantOfMemory fault
+IsNoPort fault = (fault ≡ CannotListen) ⊎ IsWantOfMemory fault
 
 module _ {K : Type 0} (keeper : Keeping K) (terms : Terms) where
   -- The service stayed by these terms, and ended: readers and customers asked for no correction and no close.
   abbrev pub HasStayedBy : Type 0
   HasStayedBy = (gates : List GateParts) × IsStayed (HoldsPassed keeper.holds keeper.HasFailed keeper.IsSettled) (Taps, All) terms gates (Ok tt)
 
-  -- Or it has no port, or ended so.
+  -- Or it has no port, or more lanes than there can be, or ended so.
   abbrev pub EndsNot : Fault → Type 0
-  EndsNot fault = IsNoPort fault ⊎ ((why : ServeFault) × IsServeFault why fault × (gates : List GateParts) × IsStayed (HoldsPassed keeper.holds keeper.HasFailed keeper.IsSettled) (Taps, All) terms gates (Err why))
+  EndsNot fault = IsNoPort fault ⊎ IsRefusal fault 32 (codes "Count") ⊎ ((why : ServeFault) × IsServeFault why fault × (gates : List GateParts) × IsStayed (HoldsPassed keeper.holds keeper.HasFailed keeper.IsSettled) (Taps, All) terms gates (Err why))
 
   module _ {S : Type 0} (store : Ghosts S) (opened : Held S) where
     -- The ledger was taken with the journals, and the service stayed.

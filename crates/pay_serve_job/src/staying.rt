@@ -1,7 +1,8 @@
 //! A service that stays, over a ledger.
-ghost use Rattle.std.specs.Prelude.{◌≡◌, length, IfOk, IfErr};
-ghost use Rattle.pay_serve.specs.Words.{terms_of};
-ghost use Rattle.pay_serve_job.specs.Stays.{HasStayedOver, HasStayedBy, EndsNot, IsNoPort, StaysNot};
+ghost use Rattle.std.specs.Prelude.{◌≡◌, length, IfOk, IfErr, OnOk};
+ghost use Rattle.pay_journal.specs.Words.{CanFail};
+ghost use Rattle.pay_serve.specs.Words.{IsOutOfPlan, terms_of};
+ghost use Rattle.pay_serve_job.specs.Stays.{HasStayCause, HasStayedOver, HasStayedBy, EndsNot, IsNoPort, StaysNot, with_staff};
 
 use crate::fault::fault_of;
 use crate::service::take_given;
@@ -10,8 +11,8 @@ use pay_close::{LedgerTill, Watch};
 use pay_jobs::Fault;
 use pay_journal::Keeper;
 use pay_ledger::Ledger;
-use pay_peers::{Control, Ports, Ready};
-use pay_serve::{Given, Plan, ServeFault, listen};
+use pay_peers::{Control, Ports, Ready, Tally};
+use pay_serve::{Given, Plan, ServeFault, listen_on};
 use pay_till::Till;
 use sqlite::Alter;
 use std::alloc::{AllocError, Global};
@@ -21,6 +22,7 @@ use std::net::{Net, TcpListener, TcpStream};
 use std::sync::atomic::AtomicBool;
 use std::sync::{Arc, Wait};
 use std::thread::Threads;
+use std::time::Clock;
 
 /// What a port that is not to be had comes to: want of memory, or that the service cannot listen.
 fn fault_of_port(error: &io::Error) -> Fault
@@ -33,28 +35,16 @@ fn fault_of_port(error: &io::Error) -> Fault
     }
 }
 
-/// Listens on one port of this host.
-fn listen_on<R: Net<Listener = TcpListener, Stream = TcpStream>>(
+/// Listens on a port of this host alone.
+fn listen_at<R: Net<Listener = TcpListener, Stream = TcpStream>>(
     rt: &R,
-    alloc: Global,
     port: u16,
 ) -> Result<TcpListener, Fault>
     ensures { IfErr result IsNoPort }
 {
-    let plan = Plan {
-        port,
-        lanes: 1,
-        shards: 0,
-        sessions: 0,
-        close: 0,
-    };
-    let mut listeners = match listen(rt, alloc, &plan) {
-        Ok(listeners) => listeners,
-        Err(why) => return Err(fault_of(why)),
-    };
-    match listeners.pop() {
-        Some(listener) => Ok(listener),
-        None => Err(Fault::CannotListen),
+    match listen_on(rt, port) {
+        Ok(listener) => Ok(listener),
+        Err(why) => Err(fault_of(why)),
     }
 }
 
@@ -64,12 +54,14 @@ fn place_at<R: Net>(
     alloc: Global,
     listener: &TcpListener,
     stop: &Arc<AtomicBool>,
+    tally: &Arc<Tally>,
 ) -> Result<Ready, Fault>
     ensures { IfErr result IsNoPort }
 {
     let stop = Arc::clone(stop)?;
+    let tally = Arc::clone(tally)?;
     let place = match listener.try_clone() {
-        Ok(listener) => Ready::new(rt, alloc, listener, stop),
+        Ok(listener) => Ready::new(rt, alloc, listener, stop, tally),
         Err(error) => Err(error),
     };
     match place {
@@ -85,14 +77,15 @@ fn places_at<R: Net<Listener = TcpListener, Stream = TcpStream>>(
     port: u16,
     lanes: u8,
     stop: &Arc<AtomicBool>,
+    tally: &Arc<Tally>,
 ) -> Result<Vec<Ready>, Fault>
     ensures count { IfOk result (λ places. length places.items ≡ lanes) }
     ensures fault { IfErr result IsNoPort }
 {
-    let listener = listen_on(rt, alloc, port)?;
+    let listener = listen_at(rt, port)?;
     let mut places = Vec::with_capacity(alloc, lanes as usize)?;
     for _ in 0..lanes {
-        let place = place_at(rt, alloc, &listener, stop)?;
+        let place = place_at(rt, alloc, &listener, stop, tally)?;
         places.push_reserved(place);
     }
     Ok(places)
@@ -108,12 +101,14 @@ fn stay_at<R, K, T: Till>(
     stop: &AtomicBool,
 ) -> Result<(), Fault>
 where
-    R: Threads + Wait + Eprint + Copy + Send + 'static,
+    R: Threads + Wait + Clock + Eprint + Copy + Send + 'static,
     K: Keeper + Send + 'static,
     requires keepers { length given.keepers.items ≡ given.plan.shards }
     requires places { length places.items ≡ given.plan.lanes }
     ensures stays { IfOk result (λ _. HasStayedBy K.Keeper (terms_of K.Keeper given.entry)) }
     ensures fails { IfErr result (EndsNot K.Keeper (terms_of K.Keeper given.entry)) }
+    ensures within { OnOk result (IsOutOfPlan (with_staff given.entry.plan) → ⊥) }
+    ensures cause { IfErr result (HasStayCause (CanFail K.HasFailed) given.entry.plan) }
 {
     let Given {
         editions,
@@ -147,6 +142,7 @@ fn stay_over<R, K, S: Alter, C: Watch>(
     alloc: Global,
     given: Given<'_, K>,
     staff: u16,
+    stop: &Arc<AtomicBool>,
     ledger: &mut Ledger<S>,
     watch: &mut C,
 ) -> Result<(), Fault>
@@ -154,6 +150,7 @@ where
     R: Net<Listener = TcpListener, Stream = TcpStream>
         + Threads
         + Wait
+        + Clock
         + Eprint
         + Copy
         + Send
@@ -162,31 +159,34 @@ where
     requires keepers { length given.keepers.items ≡ given.plan.shards }
     ensures stays { IfOk result (λ _. HasStayedBy K.Keeper (terms_of K.Keeper given.entry)) }
     ensures fails { IfErr result (EndsNot K.Keeper (terms_of K.Keeper given.entry)) }
+    ensures within { OnOk result (IsOutOfPlan (with_staff given.entry.plan) → ⊥) }
+    ensures cause { IfErr result (HasStayCause (CanFail K.HasFailed) given.entry.plan) }
 {
-    let stop = Arc::new(alloc, AtomicBool::new(false)).map_err(AllocError::from)?;
     let ports = Ports {
         everybody: given.plan.port,
         staff,
     };
-    let places = places_at(&rt, alloc, ports.everybody, given.plan.lanes, &stop)?;
-    let listener = listen_on(&rt, alloc, staff)?;
-    let told = Arc::clone(&stop)?;
+    let tally = Arc::new(alloc, Tally::new(alloc)?).map_err(AllocError::from)?;
+    let places = places_at(&rt, alloc, ports.everybody, given.plan.lanes, stop, &tally)?;
+    let listener = listen_at(&rt, staff)?;
+    let told = Arc::clone(stop)?;
     let till = LedgerTill::new(alloc, ledger, watch);
-    match Control::new(rt, alloc, listener, ports, told, till) {
-        Ok(control) => stay_at(rt, alloc, given, places, control, &stop),
+    match Control::new(rt, alloc, listener, ports, told, tally, till) {
+        Ok(control) => stay_at(rt, alloc, given, places, control, stop),
         Err(error) => Err(fault_of_port(&error)),
     }
 }
 
 /// Serves everybody at one port, by so many lanes as a plan has, and staff at another, by a fare file and the clock of a zone, until staff
-/// ask for the service to stop. Days are closed into a ledger, if the watch lets them. The lines of journals, which are given by their
-/// numbers from 0 on, are taken again before the first connection; and each shard has a keeper of what it newly accepts. A ledger that
-/// does not agree with what the journals give back is not [taken](pay_jobs::take_with), and then no port is.
+/// ask for the service to stop, or it is told to. Days are closed into a ledger, if the watch lets them. The lines of journals, which are
+/// given by their numbers from 0 on, are taken again before the first connection; and each shard has a keeper of what it newly accepts. A
+/// ledger that does not agree with what the journals give back is not [taken](pay_jobs::take_with), and then no port is.
 pub fn stay<R, K, S: Alter, C: Watch>(
     rt: R,
     alloc: Global,
     given: Given<'_, K>,
     staff: u16,
+    stop: &Arc<AtomicBool>,
     ledger: &mut Ledger<S>,
     watch: &mut C,
 ) -> Result<(), Fault>
@@ -194,6 +194,7 @@ where
     R: Net<Listener = TcpListener, Stream = TcpStream>
         + Threads
         + Wait
+        + Clock
         + Eprint
         + Copy
         + Send
@@ -202,8 +203,10 @@ where
     requires keepers { length given.keepers.items ≡ given.plan.shards }
     ensures stays { IfOk result (λ _. HasStayedOver K.Keeper (terms_of K.Keeper given.entry) S.Store ledger.old) }
     ensures fails { IfErr result (StaysNot K.Keeper (terms_of K.Keeper given.entry) S.Store ledger.old) }
+    ensures within { OnOk result (IsOutOfPlan (with_staff given.entry.plan) → ⊥) }
+    ensures cause { IfErr result (HasStayCause (CanFail K.HasFailed) given.entry.plan) }
 {
     take_given(alloc, &given.editions, &given.zone, given.texts, ledger)?;
     watch.begins();
-    stay_over(rt, alloc, given, staff, ledger, watch)
+    stay_over(rt, alloc, given, staff, stop, ledger, watch)
 }
