@@ -39,7 +39,8 @@ Commands:
   statement  Read taps and corrections from standard input, and print the statement of an account's week as CSV
   replay     Read journals, and print how many lines and accounts they have, with the first and last
              instant, or the first bad line
-  serve      Read taps and corrections from the connections of several lanes, and then close a day
+  serve      Read taps and corrections from the connections of several lanes. Close a day after so
+             many connections, or stay, and close days when staff say so
   audit      Compare a journal with what is kept beside it and with a ledger, and print each thing
              that differs and each week that is not settled
   rebuild    Print the lines of the taps and corrections that a ledger archives, as a journal
@@ -51,16 +52,18 @@ Options:
   -V, --version  Print version
 
 Words of run (FARES ZONE), of check (FARES), of statement (FARES ZONE ACCOUNT DAY), of replay
-(FARES ZONE FILE..), of serve (FARES ZONE --port P --lanes L --shards N --sessions K --close DAY),
-of audit (FARES ZONE --journal PATH) and of rebuild (FARES LEDGER), with options in any order:
+(FARES ZONE FILE..), of serve (FARES ZONE --port P --lanes L --shards N --sessions K --close DAY, or
+FARES ZONE --port P --lanes L --shards N --control C --journal FOLDER --ledger FILE), of audit
+(FARES ZONE --journal PATH) and of rebuild (FARES LEDGER), with options in any order:
   FARES    the fare file, a TOML document, which may hold editions, fares that hold from a day on
   ZONE     the time zone, a POSIX rule text (a name such as Europe/London is none)
   ACCOUNT  the account, a number from 1 to 4294967295
   DAY      a service day, counted from 1970-01-01: of the week, or the one that is closed
-  P        the port of the first lane; each further lane has the next port
-  L        how many lanes there are, from 1 to 15
+  P        the port of the first lane, each further lane has the next port; with C, of all lanes
+  L        how many lanes there are, from 1 to 15; with C, from 1 to 14
   N        how many shards the accounts are spread over, from 1 to 16
-  K        how many connections each lane serves, from 1 to 1000
+  K        how many connections each lane serves, from 1 to 1000; then the service ends
+  C        the port for staff, who close days and end the service
   FILE     a journal, which run or serve wrote
   PATH     a journal, or a folder of journals, which is only read
   LEDGER   the SQLite file that days were closed into
@@ -179,9 +182,10 @@ folder of `serve --journal FOLDER` there is one for each shard.
 The lines, the journal and the faults are described in docs/FORMATS.md.
 """
 SERVE_HELP = b"""\
-Read taps and corrections from the connections of several lanes, and then close a day
+Read taps and corrections from the connections of several lanes. Close a day after so
+many connections, or stay, and close days when staff say so
 
-Usage: farebox serve [OPTIONS] --port <P> --lanes <L> --shards <N> --sessions <K> --close <DAY> <FARES> <ZONE>
+Usage: farebox serve [OPTIONS] --port <P> --lanes <L> --shards <N> <FARES> <ZONE>
 
 Arguments:
   <FARES>  The fare file, a TOML document
@@ -190,12 +194,15 @@ Arguments:
 
 Options:
       --port <P>          The port of the first lane, from 1 to 65535. Each further lane has the
-                          next port, and none is above 65535
-      --lanes <L>         How many lanes there are, from 1 to 15
+                          next port, and none is above 65535. With --control, the port of all lanes
+      --lanes <L>         How many lanes there are, from 1 to 15; with --control, from 1 to 14
       --shards <N>        How many shards the accounts are spread over, from 1 to 16
-      --sessions <K>      How many connections each lane serves, from 1 to 1000
-      --close <DAY>       The service day that is closed at the end, counted from 1970-01-01: a
-                          number from 4 to 50000
+      --sessions <K>      For a service that ends: how many connections each lane serves, from 1 to
+                          1000
+      --close <DAY>       For a service that ends: the service day that is closed at its end, a
+                          number from 4 to 50000, counted from 1970-01-01
+      --control <C>       For a service that stays: the port for its staff, from 1 to 65535, and not
+                          P. It needs --journal and --ledger, and takes no --sessions and no --close
       --journal <FOLDER>  A folder of the lines that were accepted, a file for each shard. They are
                           taken first, and each line that is accepted is added before its reply. The
                           files are made if they are missing, the folder is not
@@ -204,18 +211,31 @@ Options:
                           file is refused before its day is over by this machine's clock
   -h, --help              Print help
 
-Lane l, from 0 to L - 1, listens on port P + l of 127.0.0.1 and serves K connections, one after
-another, in a thread of its own. On a connection lines come in, and the reply to each goes out; a
-CLOSE is refused by 34. The accounts are spread over N shards, each in a thread of its own. When
-all connections of all lanes have ended, DAY is closed, the lines of that close are printed, and
-the program ends. With --journal FOLDER the lines that were accepted before are taken first, and
-with --ledger FILE the day is closed into a file, if it is over by this machine's clock or --early
-is given. With --journal and without --ledger it is not closed: its refusal by 34 is printed, and
-the status is 1. Without --ledger, --early does nothing.
+A service has one of two forms. With --sessions K and --close DAY it ends: each lane serves K
+connections, and then DAY is closed. With --control C it stays until its staff stop it. All ports
+are of 127.0.0.1 alone. On a connection lines come in, and the reply to each goes out. Each lane has
+a thread of its own, and so has each of the N shards that the accounts are spread over. With
+--journal FOLDER the lines that were accepted before are taken first.
+
+A service that ends: lane l, from 0 to L - 1, listens on port P + l, and serves its connections one
+after another. A CLOSE is refused by 34. When all connections of all lanes have ended, DAY is
+closed, the lines of that close are printed, and the program ends. With --ledger FILE the day is
+closed into a file, if it is over by this machine's clock or --early is given. With --journal and
+without --ledger it is not closed: its refusal by 34 is printed, and the status is 1. Without
+--ledger, --early does nothing.
 
 Example: two lanes, on ports 9000 and 9001, serve a connection each, and day 19730 is closed.
   $ farebox serve examples/bus.toml GMT0BST,M3.5.0/1,M10.5.0 --port 9000 --lanes 2 --shards 4 \\
       --sessions 1 --close 19730
+
+A service that stays: all lanes listen on port P, and hold as many connections as come. CLOSE and
+FIX are refused by 34 there, and taken at port C, as are STATS, which is answered by what the
+service has counted, and STOP, which ends it. --journal FOLDER and --ledger FILE have to be given:
+days are closed into that file, if they are over by this machine's clock or --early is given.
+
+Example: two lanes serve port 9000, and staff close days at port 9100.
+  $ farebox serve FARES ZONE --port 9000 --lanes 2 --shards 4 --control 9100 \\
+      --journal taps --ledger fares.db
 """ + STATUSES + RUN_FORMATS
 AUDIT_HELP = b"""\
 Compare a journal with what is kept beside it and with a ledger, and print each thing
@@ -535,6 +555,10 @@ TO_RUN = ["run", MISSING, LONDON]
 TO_STATE = ["statement", MISSING, LONDON, "7", "19730"]
 TO_REPLAY = ["replay", MISSING, LONDON]
 TO_SERVE = ["serve", MISSING, LONDON, *OPTIONS]
+TO_STAY = [
+    "serve", MISSING, LONDON, "--port", "9000", "--lanes", "2", "--shards", "4", "--control", "9100", "--journal", "a",
+    "--ledger", "b",
+]
 REFUSED_FILES = (
     [*TO_RUN, "--sync"], [*TO_RUN, "--journal"], [*TO_RUN, "--journal", "--sync"], [*TO_RUN, "--ledger"],
     [*TO_RUN, "--ledger", "a", "--sync"],
@@ -555,6 +579,15 @@ REFUSED_FILES = (
     ["replay"], TO_REPLAY[:2], TO_REPLAY, [*TO_REPLAY, "--journal", "a"], [*TO_REPLAY, "a", "--sync"],
     [*TO_REPLAY, "-a"], [*TO_REPLAY, "a", b"\xff"],
     ["--", *TO_REPLAY, "a"], ["REPLAY", *TO_REPLAY[1:], "a"], [*TO_REPLAY, "--"], [*TO_REPLAY, "a", "--ledger", "a"],
+    # The form that stays, and what does not belong to it or is missing.
+    *(
+        [*TO_STAY[:at], *TO_STAY[at + 2:]] for at in range(3, len(TO_STAY), 2)
+    ),
+    *([*TO_STAY, *more] for more in (
+        ["--sessions=1"], ["--close=19730"], ["--sessions=1", "--close=19730"], ["--control=9100"], ["--sync"],
+    )),
+    [*TO_STAY[:10], "9000", *TO_STAY[11:]], [*TO_STAY[:10], "0", *TO_STAY[11:]], [*TO_STAY[:10], "65536", *TO_STAY[11:]],
+    [*TO_STAY[:6], "15", *TO_STAY[7:]], [*TO_SERVE, "--control", "9100"], [*RUN, "--control=9100"],
     [*TO_SERVE, "--sync"], [*TO_SERVE, "--journal", "a", "--sync"], [*TO_SERVE, "--journal"], [*TO_SERVE, "--ledger"],
     [*TO_SERVE, "--journal", "-a"],
     [*TO_SERVE, "--journal", "a", "--journal", "a"], [*TO_SERVE, "--ledger=a", "--ledger", "a"],
@@ -570,7 +603,8 @@ TAKEN_FILES = (
     [*TO_RUN, "--ledger", "a"], [*TO_RUN, "--ledger=-a"], [*TO_RUN, "--ledger="],
     [*TO_RUN, "--ledger", "a", "--journal", "b", "--sync"],
     ["run", "--sync", MISSING, "--ledger", "b", LONDON, "--journal=a"], [*TO_RUN, "--ledger", "a", "--journal", "a"],
-    [*TO_SERVE, "--journal", "a"], [*TO_SERVE, "--ledger", "a"],
+    [*TO_SERVE, "--journal", "a"], [*TO_SERVE, "--ledger", "a"], TO_STAY, [*TO_STAY, "--early"],
+    ["serve", "--control=1", "--ledger=b", MISSING, "--journal=a", "--early", LONDON, "--shards=16", "--lanes=14", "--port=65535"],
     ["serve", "--ledger=b", *OPTIONS[:4], MISSING, "--journal", "a", *OPTIONS[4:], LONDON],
     ["serve", *OPTIONS, "--journal=-a", "--ledger=-b", "--", MISSING, LONDON],
     [*TO_SERVE, "--journal=", "--ledger", ""],

@@ -3,6 +3,7 @@
 
 mod program;
 mod serve;
+mod stay;
 
 use std::process::ExitCode;
 

@@ -2,6 +2,7 @@
 ghost use Rattle.farebox.specs.NoJob.{IsTextOrFault};
 
 use crate::serve::serve_sessions;
+use crate::stay::stay_on;
 use pay_files::{
     Ledgers, audit_files, check_fares, memory_or, rebuild_lines, replay_journals, run_session,
     write_statement,
@@ -121,6 +122,7 @@ where
         Ok(Job::Statement(words)) => write_statement(&rt, &words),
         Ok(Job::Replay(words)) => replay_journals(&rt, &words),
         Ok(Job::Serve(words)) => serve_sessions(rt, &words),
+        Ok(Job::Stay(words)) => stay_on(rt, &words),
         Ok(Job::Audit(words)) => audit_files(&rt, &words),
         Ok(Job::Rebuild(words)) => rebuild_lines(&rt, &words),
         Err(none) => print_text(&rt, none),

@@ -143,6 +143,27 @@ where
     }
 }
 
+/// The fare file and the zone of a service with journals in a folder, and what is kept beside these, if the accounts come to the same by
+/// both and a ledger may be at its path.
+pub(crate) fn compare_beside<R: Files<File = File> + AllocGlobal>(
+    rt: &R,
+    fares: &str,
+    zone: &str,
+    folder: &str,
+    ledger: Option<&str>,
+    texts: &[Vec<u8>],
+) -> Result<(FaresAndZone, KeptFares), Fault> {
+    let begun = begin_service(rt.alloc(), fares, zone)?;
+    let kept = kept_in(rt, folder, zone, ledger.is_some(), fares)?;
+    if let Some(other) = kept.other() {
+        compare_texts(rt.alloc(), &begun.editions, &begun.zone, zone, texts, other)?;
+    }
+    if let Some(ledger) = ledger {
+        kept.refuse_ledger(rt, ledger)?;
+    }
+    Ok((begun, kept))
+}
+
 /// A service with journals, over a ledger in a file, if the accounts come to the same by what is kept beside the journals. Whether the
 /// day was closed. Without a ledger it is not, as for a session.
 fn serve_beside<R, S: Alter + Drop>(
@@ -172,22 +193,17 @@ where
         texts,
         keepers,
         others: _held,
+        failed: _failed,
     } = journals;
-    let FaresAndZone { editions, zone } = begin_service(rt.alloc(), fares, words.zone)?;
-    let kept = kept_in(&rt, folder, words.zone, words.ledger.is_some(), fares)?;
-    if let Some(other) = kept.other() {
-        compare_texts(
-            rt.alloc(),
-            &editions,
-            &zone,
-            words.zone,
-            texts.as_slice(),
-            other,
-        )?;
-    }
-    if let Some(ledger) = words.ledger {
-        kept.refuse_ledger(&rt, ledger)?;
-    }
+    let (begun, kept) = compare_beside(
+        &rt,
+        fares,
+        words.zone,
+        folder,
+        words.ledger,
+        texts.as_slice(),
+    )?;
+    let FaresAndZone { editions, zone } = begun;
     let given = Given {
         editions,
         zone,
@@ -270,19 +286,30 @@ where
 {
     watch.take(ledger)?;
     if let Some(kept) = kept {
-        if !kept.is_there() {
-            take_given(
-                rt.alloc(),
-                &given.editions,
-                &given.zone,
-                given.texts,
-                ledger,
-            )?;
-            kept.keep(&rt)?;
-        }
+        keep_once_taken(&rt, &given, ledger, kept)?;
     }
     let closed = serve_over(rt, given, ledger, &mut watch)?;
     Ok(closed && !watch.has_failed)
+}
+
+/// Keeps beside the journals of a service what is not kept there yet, once a ledger agrees with them.
+pub(crate) fn keep_once_taken<R: Files<File = File> + Eprint + AllocGlobal, K, S: Alter>(
+    rt: &R,
+    given: &Given<'_, K>,
+    ledger: &mut Ledger<S>,
+    kept: &KeptFares,
+) -> Result<(), Fault> {
+    if kept.is_there() {
+        return Ok(());
+    }
+    let Given {
+        editions,
+        zone,
+        texts,
+        ..
+    } = given;
+    take_given(rt.alloc(), editions, zone, texts, ledger)?;
+    kept.keep(rt)
 }
 
 /// A service without a ledger. Whether the day was closed, which it is not. What was kept is brought to the disk, as before a close.
@@ -336,7 +363,7 @@ where
 }
 
 /// Reports the line of a journal in a folder that is not accepted, by the path of its file.
-fn report_in<R: Eprint + AllocGlobal>(
+pub(crate) fn report_in<R: Eprint + AllocGlobal>(
     rt: &R,
     folder: &str,
     journal: u64,

@@ -1,0 +1,54 @@
+"""Services that stay: how one is started, and how whoever comes speaks to it."""
+
+import contextlib
+import subprocess
+from typing import NamedTuple
+
+from support.repository import LONDON
+from support.running import FARES, End, answers, heard, started
+from support.serving import HOST, ended, free_ports, talk
+
+
+class Staying(NamedTuple):
+    """A service, its port for everybody, that for staff, and what it said."""
+
+    ran: subprocess.Popen
+    port: int
+    control: int
+    said: bytes
+
+    def stopped(self):
+        """What it comes to that is told to stop."""
+        replies = talk(self.control, b"STOP\n")
+        came = ended(self.ran, self.said)
+        return came._replace(output=replies + came.output)
+
+    def wanted(self):
+        """What it has to come to then."""
+        return End(0, b"BYE\n", both_listening(self.port, self.control))
+
+
+def staying_words(port, control, journals, ledger, lanes=2, shards=2, fares=FARES, more=()):
+    numbers = {"port": port, "lanes": lanes, "shards": shards, "control": control}
+    files = ["--journal", journals, "--ledger", ledger]
+    return ["serve", fares, LONDON, *(f"--{name}={number}" for name, number in numbers.items()), *files, *more]
+
+
+def both_listening(port, control):
+    """What is said once lines are answered."""
+    return f"farebox: listening on {HOST}:{port}, for staff on {HOST}:{control}\n".encode()
+
+
+@contextlib.contextmanager
+def staying(journals, ledger, lanes=2, shards=2, more=(), **how):
+    """A service that stays, once it answers lines."""
+    port = free_ports(2)
+    words = staying_words(port, port + 1, journals, ledger, lanes, shards, more=more)
+    with started(words, stdin=subprocess.DEVNULL, **how) as ran:
+        yield Staying(ran, port, port + 1, heard(ran.stderr, len(both_listening(port, port + 1))))
+
+
+def asked(peer, line, reply):
+    """What a peer hears to a line, as many bytes as this reply has."""
+    peer.sendall(line.encode())
+    return answers(heard(peer, len(reply)))

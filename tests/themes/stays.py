@@ -1,0 +1,309 @@
+"""Services that stay: who may ask what, who comes and stays, what staff close, and how they end and go on."""
+
+import contextlib
+import os
+import socket
+import threading
+import time
+
+from support.journals import new_folder
+from support.kept import rows_of_ledger
+from support.running import MONDAY, RUN, SEVEN, answers, bytes_of, end_of, fault, heard, limited_to, run, written
+from support.serving import (
+    boarding, break_off, come_and_go, connected, ended, is_free, paid, rest_of, side_by_side, talk, talk_ahead,
+)
+from support.staying import asked, both_listening, staying, staying_words
+from support.theme import Theme
+
+CREDIT = "FIX 3 1 7 CREDIT 19730 25\n"
+BOARDED, AGAIN, NOT_HERE = "OK 19730 175 175\n", "AGAIN 19730 175 175\n", "NO 34 NotHere\n"
+SUNDAY = MONDAY + 6
+
+
+def due(account, pence=175):
+    return f"DUE {account} {MONDAY} {MONDAY} 1 {pence} 4={pence}\n"
+
+
+def path_of(journals, number):
+    return os.path.join(journals, f"{number}.lines")
+
+
+def hears_nothing_more(peer):
+    """That a peer's connection has ended."""
+    try:
+        return rest_of(peer) == b""
+    except ConnectionResetError:
+        return True
+
+
+class Stays(Theme):
+    """One service, and those that go on with its files."""
+
+    def files(self):
+        return new_folder(self.folder), os.path.join(self.folder, "ledger.db")
+
+    def check_talk(self, name, peer, pairs):
+        for line, reply in pairs:
+            self.check(f"{name}, {line.rstrip()[:40]}", asked(peer, line, reply), answers(reply.encode()))
+
+    def check_stopped(self, name, service):
+        self.check(name, service.stopped(), service.wanted())
+
+    def check_is(self, name, is_so):
+        self.check(name, answers(str(is_so).encode()), answers(b"True"))
+
+    def test_who_may_ask(self):
+        """Readers and customers tap and ask; staff correct, close and stop too."""
+        journals, ledger = self.files()
+        with staying(journals, ledger) as service:
+            with connected(service.port) as reader, connected(service.control) as staff:
+                self.check_talk(
+                    "at the port for everybody", reader,
+                    (
+                        (boarding(7), BOARDED), (boarding(7), AGAIN), ("DUE 7 19730\n", due(7)), (CREDIT, NOT_HERE),
+                        ("CLOSE 19730\n", NOT_HERE), ("STOP\n", "NO 50 BadLine\n"), (boarding(8), BOARDED),
+                    ),
+                )
+                self.check_talk(
+                    "at that for staff", staff,
+                    (
+                        (boarding(9), BOARDED), (CREDIT, BOARDED),
+                        ("DUE 7 19730\n", f"DUE 7 {MONDAY} {MONDAY} 2 150 4=150\n"),
+                        (
+                            "CLOSE 19730\n",
+                            f"PAY 7 {MONDAY} {MONDAY} 2 150 150 4=150\n{paid(8)}{paid(9)}DONE {MONDAY} 3\n",
+                        ),
+                        ("STOPS\n", "NO 50 BadLine\n"), (" STOP\n", "NO 50 BadLine\n"), ("QUIT\n", "BYE\n"),
+                    ),
+                )
+                self.check_is("whether staff's connection has ended", hears_nothing_more(staff))
+                self.check_talk("and the other goes on", reader, ((boarding(10), BOARDED),))
+            self.check_stopped("how it ends", service)
+        lines = (boarding(8) + boarding(10), boarding(7) + boarding(9) + CREDIT)
+        self.check("what shard 0 kept", bytes_of(path_of(journals, 0)), lines[0].encode())
+        # Account 7 was corrected after account 9 had its tap.
+        self.check("what shard 1 kept", bytes_of(path_of(journals, 1)), lines[1].encode())
+        # A session with the same lines, closed once, has the same ledger.
+        other = os.path.join(self.folder, "other.db")
+        journal = written(self.folder, "journal", "".join((*lines[1:], lines[0])).replace(boarding(10), "").encode())
+        run([*RUN, "--journal", journal, "--ledger", other], b"CLOSE 19730\nQUIT\n")
+        self.check("what its ledger has", rows_of_ledger(ledger), rows_of_ledger(other))
+
+    def test_goes_on(self):
+        """Another service, with other numbers of lanes and shards, begins with what this one had."""
+        journals, ledger = self.files()
+        with staying(journals, ledger) as service:
+            self.check_stopped_after(service, (boarding(7), BOARDED))
+        with staying(journals, ledger, lanes=3, shards=5) as service:
+            with connected(service.control) as staff:
+                self.check_talk(
+                    "the next", staff,
+                    (
+                        (boarding(7), AGAIN), ("CLOSE 19730\n", f"{paid(7)}DONE {MONDAY} 1\n"),
+                        (CREDIT, BOARDED),
+                        ("CLOSE 19730\n", f"PAY 7 {MONDAY} {MONDAY} 2 150 -25 4=-25\nDONE {MONDAY} 1\n"),
+                    ),
+                )
+            service.ran.kill()
+        with staying(journals, ledger, lanes=1, shards=16) as service:
+            with connected(service.control) as staff:
+                self.check_talk(
+                    "the one after a kill", staff,
+                    (
+                        (CREDIT, "AGAIN 19730 175 175\n"),
+                        ("CLOSE 19730\n", f"PAY 7 {MONDAY} {MONDAY} 2 150 -25 4=-25\nDONE {MONDAY} 1\n"),
+                    ),
+                )
+            self.check_stopped("how it ends", service)
+
+    def check_stopped_after(self, service, *pairs):
+        with connected(service.port) as reader:
+            self.check_talk("the first", reader, pairs)
+        self.check_stopped("how the first ends", service)
+
+    def test_many_readers(self):
+        """Many readers hold a connection each, and none of them holds a lane."""
+        journals, ledger = self.files()
+        count = 400
+        with staying(journals, ledger, shards=4) as service, contextlib.ExitStack() as opened:
+            silent = [opened.enter_context(connected(service.port)) for _ in range(50)]
+            # One has sent a line in part.
+            silent[0].sendall(boarding(1).encode()[:9])
+            readers = [opened.enter_context(connected(service.port)) for _ in range(count)]
+            for turn, (line_of, reply_of) in enumerate(((boarding, lambda _: BOARDED), (lambda a: f"DUE {a} {MONDAY}\n", due))):
+                for account, reader in enumerate(readers, 2):
+                    reader.sendall(line_of(account).encode())
+                for account, reader in enumerate(readers, 2):
+                    reply = reply_of(account)
+                    self.check(
+                        f"turn {turn} of account {account}", answers(heard(reader, len(reply))), answers(reply.encode())
+                    )
+            silent[0].sendall(boarding(1).encode()[9:])
+            self.check("the line in two parts", answers(heard(silent[0], len(BOARDED))), answers(BOARDED.encode()))
+            reply = "".join(map(paid, range(1, count + 2))) + f"DONE {MONDAY} {count + 1}\n"
+            with connected(service.control) as staff:
+                self.check("their close", asked(staff, "CLOSE 19730\n", reply), answers(reply.encode()))
+            self.check_stopped("how it ends", service)
+            self.check_is("whether all connections have ended", all(map(hears_nothing_more, readers[:20])))
+
+    def test_byte_by_byte(self):
+        """Two peers whose lines come byte by byte, in turns."""
+        journals, ledger = self.files()
+        with staying(journals, ledger, lanes=1) as service:
+            with connected(service.port) as first, connected(service.port) as second:
+                for pair in zip(boarding(17), boarding(18)):
+                    for peer, byte in zip((first, second), pair):
+                        peer.sendall(byte.encode())
+                        time.sleep(0.0005)
+                for name, peer in (("the first", first), ("the second", second)):
+                    self.check(name, answers(heard(peer, len(BOARDED))), answers(BOARDED.encode()))
+                # A last number may have been cut.
+                first.sendall(b"DUE 17 19730")
+                first.shutdown(socket.SHUT_WR)
+                self.check("a rest without a newline", answers(rest_of(first)), answers(b"NO 50 BadLine\n"))
+            self.check_stopped("how it ends", service)
+
+    def test_strangers(self):
+        """What begins with no command is ended after its first line: no web page speaks to a port, and nothing of it
+        is taken."""
+        journals, ledger = self.files()
+        with staying(journals, ledger) as service:
+            for number, (text, reply) in enumerate((
+                (b"GET / HTTP/1.1\r\nHost: 127.0.0.1\r\n\r\n", b"NO 50 BadLine\n"),
+                (b"POST / HTTP/1.1\r\nContent-Type: text/plain\r\n\r\n" + CREDIT.encode() + b"STOP\n", b"NO 50 BadLine\n"),
+                (b"\x16\x03\x01" + bytes(200) + b"\n" + boarding(7).encode(), b"NO 51 LongLine\n"),
+                (b"fly\n" + boarding(7).encode(), b"NO 50 BadLine\n"),
+            )):
+                for name, port in (("everybody", service.port), ("staff", service.control)):
+                    with contextlib.suppress(ConnectionResetError):
+                        self.check(f"stranger {number} at the port of {name}", answers(talk(port, text)), answers(reply))
+            come_and_go(service.port, 300)
+            with connected(service.port) as gone:
+                gone.sendall(boarding(7).encode()[:12])
+                break_off(gone)
+            self.check(
+                "what was accepted", answers(talk(service.port, b"DUE 7 19730\nQUIT\n")),
+                answers(b"DUE 7 19730 19730 0 0\nBYE\n"),
+            )
+            self.check_stopped("how it ends", service)
+
+    def test_stats(self):
+        """What STATS counts, over all lanes; and the room for staff."""
+        journals, ledger = self.files()
+        with staying(journals, ledger, lanes=3) as service, contextlib.ExitStack() as opened:
+            first, second = (opened.enter_context(connected(service.port)) for _ in range(2))
+            self.check_talk(
+                "a reader", first,
+                (
+                    (boarding(7), BOARDED), (boarding(7), AGAIN), (f"TAP 1 1 7 {SEVEN + 1} 50 BUS\n", "NO 20 Conflict\n"),
+                    (CREDIT, NOT_HERE), ("fly\n", "NO 50 BadLine\n"), ("DUE 7 19730\n", due(7)),
+                ),
+            )
+            self.check_talk("another", second, ((boarding(8), BOARDED), ("fly high\n", "NO 50 BadLine\n")))
+            second.sendall(b"QUIT\n")
+            self.check("its end", answers(rest_of(second)), answers(b"BYE\n"))
+            second.close()
+            time.sleep(0.3)
+            staff = [opened.enter_context(connected(service.control)) for _ in range(16)]
+            # Lines around the word are answered in their places.
+            staff[0].sendall(b"DUE 8 19730\nSTATS\n" + CREDIT.encode())
+            came = heard(staff[0], len(due(8))).decode()
+            line = b""
+            while not line.endswith(b"\n"):
+                line += heard(staff[0], 1)
+            came += " ".join(it for it in line.decode().split(" ") if not it.startswith("seconds="))
+            came += heard(staff[0], len(BOARDED)).decode()
+            counts = "connections=17 connections_in_all=18 dropped=0 lines=10 accepted=2 again=1"
+            wanted = f"{due(8)}STATS {counts} refused_20=1 refused_34=1 refused_50=2\n{BOARDED}"
+            self.check("what is counted", answers(came.encode()), answers(wanted.encode()))
+            self.check_is("whether one more of staff is dropped", hears_nothing_more(connected(service.control)))
+            staff[0].sendall(b"STATS\n")
+            line = b""
+            while not line.endswith(b"\n"):
+                line += heard(staff[0], 1)
+            self.check_is("whether that is counted", b" dropped=1 lines=11 accepted=3 " in line)
+            staff.pop().close()
+            time.sleep(0.3)
+            self.check_stopped("how it ends", service)
+
+    def test_one_that_does_not_read(self):
+        """A peer that sends and does not read is not read on, keeps nobody waiting, and loses nothing."""
+        journals, ledger = self.files()
+        lines = 300_000
+        with staying(journals, ledger, lanes=1) as service:
+            with connected(service.port) as flood, connected(service.port) as other:
+                sent = threading.Thread(target=flood.sendall, args=(b"DUE 7 19730\n" * lines + b"QUIT\n",))
+                sent.start()
+                self.check_talk("another", other, ((boarding(8), BOARDED), ("DUE 8 19730\n", due(8))))
+                came = rest_of(flood)
+                sent.join()
+                self.check("the one that reads late", answers(came), answers(b"DUE 7 19730 19730 0 0\n" * lines + b"BYE\n"))
+            self.check_stopped("how it ends", service)
+
+    def test_closes_while_taps_go_on(self):
+        """A day is closed again and again while readers tap: each account is charged what it owes, and once."""
+        journals, ledger = self.files()
+        each, lanes = 400, 3
+        with staying(journals, ledger, lanes=lanes, shards=4) as service:
+
+            def taps(first):
+                lines = [boarding(account).encode() for account in range(first, first + each)]
+                return lambda: talk_ahead(service.port, lines)
+
+            def closes():
+                replies = b""
+                for _ in range(6):
+                    replies += talk(service.control, b"CLOSE 19730\nQUIT\n")
+                return replies
+
+            firsts = [1 + each * lane for lane in range(lanes)]
+            *heard_by, closed = side_by_side([*map(taps, firsts), closes])
+            for first, came in zip(firsts, heard_by):
+                self.check(
+                    f"the reader from account {first} on", answers(came), answers(BOARDED.encode() * each + b"BYE\n")
+                )
+            self.check("how many closes were done", closed.count(b"DONE 19730 "), 6)
+            last = "".join(map(paid, range(1, lanes * each + 1))) + f"DONE {MONDAY} {lanes * each}\nBYE\n"
+            self.check("the last close", answers(talk(service.control, b"CLOSE 19730\nQUIT\n")), answers(last.encode()))
+            self.check_stopped("how it ends", service)
+        amounts = [line for line in rows_of_ledger(ledger).split(b"\n") if line.endswith(b", 175, 175, 4)")]
+        self.check("how many postings there are", len(amounts), lanes * each)
+
+    def test_a_line_that_cannot_be_kept(self):
+        """A shard that cannot keep a line ends the service soon, and the next goes on with what was kept."""
+        journals, ledger = self.files()
+        with staying(journals, ledger) as service:
+            self.check_stopped("a first one", service)
+        many = "".join(boarding(account) for account in range(2, 12_000, 2)).encode()
+        path = written(journals, "0.lines", many)
+        begun = time.monotonic()
+        with staying(journals, ledger, **limited_to(len(many) + 5)) as service:
+            with connected(service.port) as reader, connected(service.port) as other:
+                self.check_talk("what is kept already", reader, ((boarding(2), AGAIN), (boarding(1), BOARDED)))
+                begun = time.monotonic()
+                reader.sendall(boarding(20_000).encode())
+                self.check_is("whether the other has ended", hears_nothing_more(other))
+                came = rest_of(reader)
+            self.check_is("whether the line was not accepted", b"OK" not in came)
+            wanted = fault("journal fault")
+            wanted = wanted._replace(
+                errors=both_listening(service.port, service.control)
+                + f"farebox: cannot keep lines in {path}\n".encode() + wanted.errors
+            )
+            self.check("how it ends", ended(service.ran, service.said), wanted)
+            self.check_is("whether it ended within three seconds", time.monotonic() - begun < 3)
+        with staying(journals, ledger) as service:
+            with connected(service.port) as reader:
+                self.check_talk("the next", reader, ((boarding(20_000), BOARDED), (boarding(1), AGAIN)))
+            self.check_stopped("how the next ends", service)
+
+    def test_ports(self):
+        """A port that is taken is a fault, before a line is answered; and both are free once a service has ended."""
+        journals, ledger = self.files()
+        with staying(journals, ledger) as service:
+            for name, taken in (("everybody", (service.port, service.control + 1)), ("staff", (service.control + 1, service.control))):
+                others = new_folder(self.folder, f"others of {name}")
+                came = run(staying_words(*taken, others, f"{others}.db"))
+                self.check(f"the port of {name} is taken", came, fault("cannot listen"))
+            self.check_stopped("how it ends", service)
+        self.check_is("whether its ports are free", is_free(service.port) and is_free(service.control))
