@@ -1,6 +1,6 @@
 #!/usr/bin/env python3
-"""Times a service that stays: a hundred readers over connections of their own, many that are silent beside them, and the
-longest wait of a tap while a day is closed. See README.md."""
+"""Times a service that stays: a hundred readers over connections of their own, many that are silent beside them, and
+taps while a day is closed. See README.md."""
 
 import argparse
 import contextlib

@@ -1,4 +1,5 @@
-"""The nightly close of contrib/nightly and the lines of contrib/staff, at a stand-in for the port for staff."""
+"""The nightly close of contrib/nightly and the lines of contrib/staff, at a stand-in for the port for staff, and at a
+service that stays."""
 
 import contextlib
 import os
@@ -9,9 +10,11 @@ import sys
 import threading
 import time
 
+from support.journals import new_folder
 from support.repository import LONDON, PROGRAM, ROOT, RUN_SAMPLE
 from support.running import MISSING, TIME_TO_END, TIME_TO_REPLY, End, answers, bytes_of, in_lines, run, written
-from support.serving import HOST, free_ports
+from support.serving import HOST, boarding, ended, free_ports, paid, talk
+from support.staying import both_listening, staying
 from support.theme import Theme
 
 NIGHTLY, STAFF = f"{ROOT}/contrib/nightly", f"{ROOT}/contrib/staff"
@@ -303,6 +306,31 @@ class Nightly(Theme):
             path = written(self.folder, "farebox.conf", in_lines(["PORT=1", f'CONTROL="{staff.port}"', "LANES=2"]))
             came = ran([NIGHTLY, "19730", "--into", self.into], FAREBOX_CONF=path)
         self.check("a close by them", came, answers(self.closed(19730, MONDAY, 1, 610).encode()))
+
+
+class Service(Theme):
+    """The scripts at a service that stays."""
+
+    def test_a_service(self):
+        """A day is closed, what is counted is told, and the service is stopped."""
+        journals, ledger = new_folder(self.folder), os.path.join(self.folder, "ledger")
+        into = os.path.join(self.folder, "postings")
+        with staying(journals, ledger) as service:
+            talk(service.port, (boarding(7) + boarding(8) + "QUIT\n").encode())
+            control = {"CONTROL": str(service.control)}
+            came = ran([NIGHTLY, "19730", "--into", into], **control)
+            told = f"nightly: day 19730 ({MONDAY}) closed: 2 postings of 350 pence in {into}/{MONDAY}.txt\n"
+            self.check("a close", came, answers(told.encode()))
+            postings = answers((paid(7) + paid(8) + "DONE 19730 2\n").encode())
+            self.check("its file", answers(bytes_of(f"{into}/{MONDAY}.txt")), postings)
+            came = ran([STAFF, "STATS"], **control)
+            counts = came.output.decode().partition(" connections=")[2]
+            # The three lines of the reader, the CLOSE and the QUIT of the close; the connection of STATS is open.
+            wanted = "1 connections_in_all=3 dropped=0 lines=5 accepted=2 again=0\nBYE\n"
+            self.check("what is counted", answers(counts.encode()), answers(wanted.encode()))
+            self.check("a stop", ran([STAFF, "STOP"], **control), answers(b"BYE\n"))
+            wanted = End(0, b"", both_listening(service.port, service.control))
+            self.check("how it ends", ended(service.ran, service.said), wanted)
 
 
 class Lines(Theme):

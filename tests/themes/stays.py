@@ -130,7 +130,8 @@ class Stays(Theme):
             # One has sent a line in part.
             silent[0].sendall(boarding(1).encode()[:9])
             readers = [opened.enter_context(connected(service.port)) for _ in range(count)]
-            for turn, (line_of, reply_of) in enumerate(((boarding, lambda _: BOARDED), (lambda a: f"DUE {a} {MONDAY}\n", due))):
+            turns = (boarding, lambda _: BOARDED), (lambda account: f"DUE {account} {MONDAY}\n", due)
+            for turn, (line_of, reply_of) in enumerate(turns):
                 for account, reader in enumerate(readers, 2):
                     reader.sendall(line_of(account).encode())
                 for account, reader in enumerate(readers, 2):
@@ -170,7 +171,7 @@ class Stays(Theme):
         with staying(journals, ledger) as service:
             for number, (text, reply) in enumerate((
                 (b"GET / HTTP/1.1\r\nHost: 127.0.0.1\r\n\r\n", b"NO 50 BadLine\n"),
-                (b"POST / HTTP/1.1\r\nContent-Type: text/plain\r\n\r\n" + CREDIT.encode() + b"STOP\n", b"NO 50 BadLine\n"),
+                (b"POST / HTTP/1.1\r\nHost: a\r\n\r\n" + CREDIT.encode() + b"STOP\n", b"NO 50 BadLine\n"),
                 (b"\x16\x03\x01" + bytes(200) + b"\n" + boarding(7).encode(), b"NO 51 LongLine\n"),
                 (b"fly\n" + boarding(7).encode(), b"NO 50 BadLine\n"),
             )):
@@ -195,7 +196,8 @@ class Stays(Theme):
             self.check_talk(
                 "a reader", first,
                 (
-                    (boarding(7), BOARDED), (boarding(7), AGAIN), (f"TAP 1 1 7 {SEVEN + 1} 50 BUS\n", "NO 20 Conflict\n"),
+                    (boarding(7), BOARDED), (boarding(7), AGAIN),
+                    (f"TAP 1 1 7 {SEVEN + 1} 50 BUS\n", "NO 20 Conflict\n"),
                     (CREDIT, NOT_HERE), ("fly\n", "NO 50 BadLine\n"), ("DUE 7 19730\n", due(7)),
                 ),
             )
@@ -237,7 +239,8 @@ class Stays(Theme):
                 self.check_talk("another", other, ((boarding(8), BOARDED), ("DUE 8 19730\n", due(8))))
                 came = rest_of(flood)
                 sent.join()
-                self.check("the one that reads late", answers(came), answers(b"DUE 7 19730 19730 0 0\n" * lines + b"BYE\n"))
+                wanted = b"DUE 7 19730 19730 0 0\n" * lines + b"BYE\n"
+                self.check("the one that reads late", answers(came), answers(wanted))
             self.check_stopped("how it ends", service)
 
     def test_closes_while_taps_go_on(self):
@@ -301,7 +304,8 @@ class Stays(Theme):
         """A port that is taken is a fault, before a line is answered; and both are free once a service has ended."""
         journals, ledger = self.files()
         with staying(journals, ledger) as service:
-            for name, taken in (("everybody", (service.port, service.control + 1)), ("staff", (service.control + 1, service.control))):
+            port, control = service.port, service.control
+            for name, taken in (("everybody", (port, control + 1)), ("staff", (control + 1, control))):
                 others = new_folder(self.folder, f"others of {name}")
                 came = run(staying_words(*taken, others, f"{others}.db"))
                 self.check(f"the port of {name} is taken", came, fault("cannot listen"))

@@ -559,6 +559,7 @@ TO_STAY = [
     "serve", MISSING, LONDON, "--port", "9000", "--lanes", "2", "--shards", "4", "--control", "9100", "--journal", "a",
     "--ledger", "b",
 ]
+FULL_STAY = ["--shards=16", "--lanes=14", "--port=65535"]
 REFUSED_FILES = (
     [*TO_RUN, "--sync"], [*TO_RUN, "--journal"], [*TO_RUN, "--journal", "--sync"], [*TO_RUN, "--ledger"],
     [*TO_RUN, "--ledger", "a", "--sync"],
@@ -586,7 +587,7 @@ REFUSED_FILES = (
     *([*TO_STAY, *more] for more in (
         ["--sessions=1"], ["--close=19730"], ["--sessions=1", "--close=19730"], ["--control=9100"], ["--sync"],
     )),
-    [*TO_STAY[:10], "9000", *TO_STAY[11:]], [*TO_STAY[:10], "0", *TO_STAY[11:]], [*TO_STAY[:10], "65536", *TO_STAY[11:]],
+    *([*TO_STAY[:10], control, *TO_STAY[11:]] for control in ("9000", "0", "65536")),
     [*TO_STAY[:6], "15", *TO_STAY[7:]], [*TO_SERVE, "--control", "9100"], [*RUN, "--control=9100"],
     [*TO_SERVE, "--sync"], [*TO_SERVE, "--journal", "a", "--sync"], [*TO_SERVE, "--journal"], [*TO_SERVE, "--ledger"],
     [*TO_SERVE, "--journal", "-a"],
@@ -604,7 +605,7 @@ TAKEN_FILES = (
     [*TO_RUN, "--ledger", "a", "--journal", "b", "--sync"],
     ["run", "--sync", MISSING, "--ledger", "b", LONDON, "--journal=a"], [*TO_RUN, "--ledger", "a", "--journal", "a"],
     [*TO_SERVE, "--journal", "a"], [*TO_SERVE, "--ledger", "a"], TO_STAY, [*TO_STAY, "--early"],
-    ["serve", "--control=1", "--ledger=b", MISSING, "--journal=a", "--early", LONDON, "--shards=16", "--lanes=14", "--port=65535"],
+    ["serve", "--control=1", "--ledger=b", MISSING, "--journal=a", "--early", LONDON, *FULL_STAY],
     ["serve", "--ledger=b", *OPTIONS[:4], MISSING, "--journal", "a", *OPTIONS[4:], LONDON],
     ["serve", *OPTIONS, "--journal=-a", "--ledger=-b", "--", MISSING, LONDON],
     [*TO_SERVE, "--journal=", "--ledger", ""],
