@@ -70,7 +70,8 @@ FARES ZONE --port P --lanes L --shards N --control C --journal FOLDER --ledger F
 
 Further options: --journal FILE and --ledger FILE of run, and --sync with --journal; --lint and
 --against OLD of check, where OLD is another fare file, and --after DAY with --against; --journal
-FILE of statement, where it is only read; --journal FOLDER and --ledger FILE of serve; --early of
+FILE of statement, where it is only read; --journal FOLDER and --ledger FILE of serve; --ahead S of
+serve with --control, to refuse taps more than S seconds ahead of this machine's clock; --early of
 run and of serve, to close a day that is not over yet; --ledger FILE of audit.
 """ + RUN_EXAMPLE + STATUSES + RUN_FORMATS
 RUN_HELP = b"""\
@@ -203,6 +204,8 @@ Options:
                           number from 4 to 50000, counted from 1970-01-01
       --control <C>       For a service that stays: the port for its staff, from 1 to 65535, and not
                           P. It needs --journal and --ledger, and takes no --sessions and no --close
+      --ahead <S>         For a service that stays: refuse taps that are more than S seconds ahead
+                          of this machine's clock, by 1. From 0 to 86400
       --journal <FOLDER>  A folder of the lines that were accepted, a file for each shard. They are
                           taken first, and each line that is accepted is added before its reply. The
                           files are made if they are missing, the folder is not
@@ -589,6 +592,12 @@ REFUSED_FILES = (
     )),
     *([*TO_STAY[:10], control, *TO_STAY[11:]] for control in ("9000", "0", "65536")),
     [*TO_STAY[:6], "15", *TO_STAY[7:]], [*TO_SERVE, "--control", "9100"], [*RUN, "--control=9100"],
+    *([*TO_STAY, *more] for more in (
+        ["--ahead"], ["--ahead="], ["--ahead", "-1"], ["--ahead=86401"], ["--ahead=60", "--ahead", "60"],
+        ["--ahead=60", "--sessions=1", "--close=19730"],
+    )),
+    [*TO_STAY[:9], *TO_STAY[11:], "--ahead=60"], [*TO_SERVE, "--ahead=60"],
+    [*TO_SERVE, "--journal", "a", "--ledger", "b", "--ahead", "0"], [*TO_RUN, "--ahead=60"],
     [*TO_SERVE, "--sync"], [*TO_SERVE, "--journal", "a", "--sync"], [*TO_SERVE, "--journal"], [*TO_SERVE, "--ledger"],
     [*TO_SERVE, "--journal", "-a"],
     [*TO_SERVE, "--journal", "a", "--journal", "a"], [*TO_SERVE, "--ledger=a", "--ledger", "a"],
@@ -605,6 +614,10 @@ TAKEN_FILES = (
     [*TO_RUN, "--ledger", "a", "--journal", "b", "--sync"],
     ["run", "--sync", MISSING, "--ledger", "b", LONDON, "--journal=a"], [*TO_RUN, "--ledger", "a", "--journal", "a"],
     [*TO_SERVE, "--journal", "a"], [*TO_SERVE, "--ledger", "a"], TO_STAY, [*TO_STAY, "--early"],
+    *([*TO_STAY, *more] for more in (
+        ["--ahead", "60"], ["--ahead=0"], ["--early", "--ahead", "86400"], ["--ahead=+086400"],
+    )),
+    ["serve", "--ahead", "60", *TO_STAY[1:]],
     ["serve", "--control=1", "--ledger=b", MISSING, "--journal=a", "--early", LONDON, *FULL_STAY],
     ["serve", "--ledger=b", *OPTIONS[:4], MISSING, "--journal", "a", *OPTIONS[4:], LONDON],
     ["serve", *OPTIONS, "--journal=-a", "--ledger=-b", "--", MISSING, LONDON],

@@ -1,6 +1,7 @@
 -- What a number among the words is read as.
 use Rattle.std.proofs.Common.{◌≡◌, ℕ, ◌<◌, ◌^◌, false, true, ap, Option, Some, None, Result, Ok, Err, arith}
 use Rattle.std.specs.Str.Parse.{ParsesUnsigned, without_leading_plus, digits_value}
+use Rattle.std.specs.Prelude.{IfSome, option_map}
 use Rattle.clap.specs.Walk.{Text}
 use Rattle.clap.specs.Matches.{ReadsOne}
 use Rattle.clap.specs.ValueTests.{is_unsigned_in}
@@ -19,3 +20,9 @@ read_number {E} bits gives parses least most word found fits within read = go fo
         let in_range = accepts-Accepts false (vp.Unsigned least most) word fits in
         let small : digits_value 10 (without_leading_plus word) < 2 ^ bits = omega (arith, in_range.3, within) in
         absurd (parses word (Err h.0) h.1 (in_range.0, small))
+
+-- a number that may be given, where none is read as none, and one in its range as its number
+pub number_given : (found given : Option Text) (IsRead : Text → Type 0) (read : Option ℕ) → (found ≡ None → read ≡ None)
+    → ((word : Text) → found ≡ Some word → IsRead word → read ≡ Some (number_of word)) → found ≡ given → IfSome given IsRead → read ≡ option_map number_of given
+number_given found None IsRead read none value is fits = none is
+number_given found (Some word) IsRead read none value is fits = value word is fits

@@ -205,9 +205,10 @@ serve_texts m f s same gives =
       one_text-rows f (codes "sessions") ∙ (ap (one_of (codes "sessions")) rows_are ∙ h.5),
       one_text-rows f (codes "close") ∙ (ap (one_of (codes "close")) rows_are ∙ h.6),
       one_text-rows f (codes "control") ∙ (ap (one_of (codes "control")) rows_are ∙ h.7),
-      first_value-rows f (codes "journal") ∙ (ap (first_of (codes "journal")) rows_are ∙ h.8),
-      first_value-rows f (codes "ledger") ∙ (ap (first_of (codes "ledger")) rows_are ∙ h.9),
-      one_text-rows f (codes "early") ∙ (ap (one_of (codes "early")) rows_are ∙ h.10),
+      one_text-rows f (codes "ahead") ∙ (ap (one_of (codes "ahead")) rows_are ∙ h.8),
+      first_value-rows f (codes "journal") ∙ (ap (first_of (codes "journal")) rows_are ∙ h.9),
+      first_value-rows f (codes "ledger") ∙ (ap (first_of (codes "ledger")) rows_are ∙ h.10),
+      one_text-rows f (codes "early") ∙ (ap (one_of (codes "early")) rows_are ∙ h.11),
     )
 
 -- the matches of `audit` have what it is asked for
@@ -345,6 +346,11 @@ given_in_range least most (Some w) (Some n) fits is =
     let same : number_of w ≡ n = cc in
     number_in_range least most w n fits same
 
+-- of a range, the number that is not exceeded
+at_most : (least most : ℕ) (n : Option ℕ) → IfSome n (λ k. (least ≤ k) × (k ≤ most)) → IfSome n (λ k. k ≤ most)
+at_most least most None within = tt
+at_most least most (Some k) within = within.1
+
 -- the port of the staff is another, and a lane is left for them
 room_left : (control port lanes : ℕ) → (not (control == port) && nat_le lanes 14) ≡ true → (control ≢ port) × (lanes ≤ 14)
 room_left control port lanes is =
@@ -380,7 +386,8 @@ job_in_range ws (StayJob w) e =
     let shards = number_in_range 1 16 made.0.shards w.shards made.4.2 (ap (λ (s : Serve). s.shards) made.5) in
     let control = given_in_range 1 65_535 made.0.control (Some w.control) made.4.5 (ap (λ (s : Serve). s.control) made.5) in
     let room = room_left w.control w.port w.lanes (both _ _ (subst IsAllowed e (asked_is_allowed (words_ask ws)))).0 in
-    (port.0, control.0, room.0, lanes.0, room.1, shards.0, shards.1)
+    let ahead = given_in_range 0 86_400 made.0.ahead w.ahead made.4.6 (ap (λ (s : Serve). s.ahead) made.5) in
+    (port.0, control.0, room.0, lanes.0, room.1, shards.0, shards.1, at_most 0 86_400 w.ahead ahead)
 job_in_range ws (AuditJob w) e = tt
 job_in_range ws (Rebuild w) e = tt
 

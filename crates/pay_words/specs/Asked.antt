@@ -15,12 +15,12 @@ use Rattle.pay_words.specs.declared.words.Service.{Service}
 use Rattle.pay_words.specs.declared.words.AuditWords.{AuditWords}
 use Rattle.pay_words.specs.declared.words.WordsFault.{WordsFault}
 use Rattle.pay_words.specs.declared.words.WordsFault.TheVariants.{Help, Version, Usage, Memory}
-use Rattle.pay_words.specs.declared.limits.TheConstants.{MOST_ACCOUNT, FIRST_DAY, LAST_DAY, MOST_PORT, MOST_SERVED_LANES, MOST_STAYING_LANES, MOST_SHARDS, MOST_SESSIONS}
+use Rattle.pay_words.specs.declared.limits.TheConstants.{MOST_ACCOUNT, FIRST_DAY, LAST_DAY, MOST_PORT, MOST_SERVED_LANES, MOST_STAYING_LANES, MOST_SHARDS, MOST_SESSIONS, MOST_AHEAD}
 pub use Rattle.pay_words.specs.OneWord.{Text, Word, value, dashes, call_for_help, call_for_version, option, word_kind}
 pub use Rattle.pay_words.specs.OneWord.{Reader, any_text, is_account, is_day, number_of}
 pub use Rattle.pay_words.specs.Options.{HasNoHyphen}
 use Rattle.pay_words.specs.Options.{Part, Said, StandApart, all_of, all_said, help_wanted, not_taken, plain, apart, joined, plain_words, values_of, words_of_parts}
-use Rattle.pay_words.specs.Options.{port_option, lanes_option, shards_option, sessions_option, close_option, control_option, journal_option, sync_option, ledger_option, early_option}
+use Rattle.pay_words.specs.Options.{port_option, lanes_option, shards_option, sessions_option, close_option, control_option, ahead_option, journal_option, sync_option, ledger_option, early_option}
 use Rattle.pay_words.specs.Options.{lint_option, against_option, after_option}
 use Rattle.pay_words.specs.Audit.{AreAuditParts, Audit, audit_grammar}
 use Rattle.pay_words.specs.Check.{AreCheckParts, Check, CheckTexts, HasAfterInRange, check_grammar, check_of_texts, has_against}
@@ -141,8 +141,8 @@ replay_asked help = help_asked
 replay_asked _ = usage
 
 -- two values, one value for each option that is needed, and what each other was given
-abbrev pub serve_of : List Text → List Text → List Text → List Text → List Text → List Text → List Text → List Text → List Text → List Text → Asked
-serve_of (fares ∷ zone ∷ []) (p ∷ []) (l ∷ []) (n ∷ []) k d c j g e = serve (numbers_of (record {
+abbrev pub serve_of : List Text → List Text → List Text → List Text → List Text → List Text → List Text → List Text → List Text → List Text → List Text → Asked
+serve_of (fares ∷ zone ∷ []) (p ∷ []) (l ∷ []) (n ∷ []) k d c a j g e = serve (numbers_of (record {
   fares = fares;
   zone = zone;
   port = p;
@@ -151,17 +151,18 @@ serve_of (fares ∷ zone ∷ []) (p ∷ []) (l ∷ []) (n ∷ []) k d c j g e = 
   sessions = first_given k;
   close = first_given d;
   control = first_given c;
+  ahead = first_given a;
   journal = first_given j;
   ledger = first_given g;
   early = is_given e;
 }))
-serve_of _ _ _ _ _ _ _ _ _ _ = usage
+serve_of _ _ _ _ _ _ _ _ _ _ _ = usage
 
 -- `serve FARES ZONE` and its options
 abbrev pub serve_asked : Said → Asked
 serve_asked (all_of parts) = serve_of (plain_words parts) (values_of port_option parts) (values_of lanes_option parts)
     (values_of shards_option parts) (values_of sessions_option parts) (values_of close_option parts) (values_of control_option parts)
-    (values_of journal_option parts) (values_of ledger_option parts) (values_of early_option parts)
+    (values_of ahead_option parts) (values_of journal_option parts) (values_of ledger_option parts) (values_of early_option parts)
 serve_asked help_wanted = help_asked
 serve_asked not_taken = usage
 
@@ -266,6 +267,7 @@ served_job w = record {
   sessions = Some w.sessions;
   close = Some w.close;
   control = None;
+  ahead = None;
   journal = option_map (λ s. s.now) w.journal;
   ledger = option_map (λ s. s.now) w.ledger;
   early = w.early;
@@ -281,6 +283,7 @@ staying_job w = record {
   sessions = None;
   close = None;
   control = Some w.control;
+  ahead = w.ahead;
   journal = Some w.journal.now;
   ledger = Some w.ledger.now;
   early = w.early;
@@ -297,6 +300,7 @@ service_values w = record {
   sessions = w.sessions;
   close = w.close;
   control = w.control;
+  ahead = w.ahead;
   journal = option_map (λ s. s.now) w.journal;
   ledger = option_map (λ s. s.now) w.ledger;
   early = w.early;
@@ -365,7 +369,7 @@ IsJobInRange (ServeJob w) = (1 ≤ w.port) × (1 ≤ w.lanes) × (w.lanes ≤ MO
     × (1 ≤ w.shards) × (w.shards ≤ MOST_SHARDS) × (1 ≤ w.sessions) × (w.sessions ≤ MOST_SESSIONS)
     × (FIRST_DAY ≤ w.close) × (w.close ≤ LAST_DAY)
 IsJobInRange (StayJob w) = (1 ≤ w.port) × (1 ≤ w.control) × (w.control ≢ w.port) × (1 ≤ w.lanes) × (w.lanes ≤ MOST_STAYING_LANES)
-    × (1 ≤ w.shards) × (w.shards ≤ MOST_SHARDS)
+    × (1 ≤ w.shards) × (w.shards ≤ MOST_SHARDS) × IfSome w.ahead (λ s. s ≤ MOST_AHEAD)
 IsJobInRange (AuditJob w) = ⊤
 IsJobInRange (Rebuild w) = ⊤
 
@@ -712,6 +716,7 @@ example = record {
   sessions = Some 1;
   close = Some 19_730;
   control = None;
+  ahead = None;
   journal = None;
   ledger = None;
   early = false;
@@ -888,7 +893,46 @@ control_twice_row : row (serve_words (codes "--control=9100" ∷ codes "--contro
 unfolding chars
 control_twice_row = refl
 
+-- a tap may be ahead of the clock by so many seconds, where they are given: from none to those of a day
+stay_ahead_row : row (serve_words (codes "--control=9100" ∷ codes "--ahead" ∷ codes "60" ∷ files_words)) ≡ serve (record staying_example { ahead = Some 60 })
+unfolding chars
+stay_ahead_row = refl
+
+stay_ahead_0_row : row (serve_words (codes "--control=9100" ∷ codes "--ahead=0" ∷ files_words)) ≡ serve (record staying_example { ahead = Some 0 })
+unfolding chars
+stay_ahead_0_row = refl
+
+stay_ahead_last_row : row (serve_words (codes "--ahead=86400" ∷ codes "--control=9100" ∷ files_words)) ≡ serve (record staying_example { ahead = Some 86_400 })
+unfolding chars
+stay_ahead_last_row = refl
+
+stay_ahead_beyond_row : row (serve_words (codes "--control=9100" ∷ codes "--ahead=86401" ∷ files_words)) ≡ usage
+unfolding chars
+stay_ahead_beyond_row = refl
+
+stay_ahead_twice_row : row (serve_words (codes "--control=9100" ∷ codes "--ahead=60" ∷ codes "--ahead=60" ∷ files_words)) ≡ usage
+unfolding chars
+stay_ahead_twice_row = refl
+
+-- a service that ends has no such limit, also where it has journals and a ledger
+ahead_of_an_end_row : row (serve_words (codes "--sessions=1" ∷ codes "--close=19730" ∷ codes "--ahead=60" ∷ [])) ≡ usage
+unfolding chars
+ahead_of_an_end_row = refl
+
+ahead_of_an_end_with_files_row : row (serve_words (codes "--sessions=1" ∷ codes "--close=19730" ∷ codes "--ahead=60" ∷ files_words)) ≡ usage
+unfolding chars
+ahead_of_an_end_with_files_row = refl
+
+-- nor is there one without either form
+ahead_of_neither_row : row (serve_words (codes "--ahead=60" ∷ files_words)) ≡ usage
+unfolding chars
+ahead_of_neither_row = refl
+
 -- no other program has one
+ahead_of_run_row : row (codes "run" ∷ codes "a" ∷ codes "b" ∷ codes "--ahead=60" ∷ []) ≡ usage
+unfolding chars
+ahead_of_run_row = refl
+
 control_of_run_row : row (codes "run" ∷ codes "a" ∷ codes "b" ∷ codes "--control=9100" ∷ []) ≡ usage
 unfolding chars
 control_of_run_row = refl

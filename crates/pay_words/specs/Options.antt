@@ -3,7 +3,7 @@ use Rattle.std.specs.Prelude.{◌≡◌, List, [], ◌∷◌, ◌++◌, codes, B
 use Rattle.std.specs.Str.{bytes_eq}
 use Rattle.clap.specs.Lexer.{long_of}
 use Rattle.pay_words.specs.OneWord.{Reader, Text, Word, value, dashes, call_for_help, call_for_version, option, any_text, word_kind}
-use Rattle.pay_words.specs.OneWord.{is_account, is_day, is_lanes, is_port, is_sessions, is_shards}
+use Rattle.pay_words.specs.OneWord.{is_account, is_ahead, is_day, is_lanes, is_port, is_sessions, is_shards}
 
 -- ---- values in their places, and options
 
@@ -31,6 +31,7 @@ pub data Setting : Type 0 where
   sessions_option : Setting
   close_option : Setting
   control_option : Setting
+  ahead_option : Setting
   journal_option : Setting
   sync_option : Setting
   ledger_option : Setting
@@ -46,6 +47,7 @@ name_of shards_option = codes "shards"
 name_of sessions_option = codes "sessions"
 name_of close_option = codes "close"
 name_of control_option = codes "control"
+name_of ahead_option = codes "ahead"
 name_of journal_option = codes "journal"
 name_of sync_option = codes "sync"
 name_of ledger_option = codes "ledger"
@@ -61,6 +63,7 @@ is_flag shards_option = false
 is_flag sessions_option = false
 is_flag close_option = false
 is_flag control_option = false
+is_flag ahead_option = false
 is_flag journal_option = false
 is_flag sync_option = true
 is_flag ledger_option = false
@@ -84,6 +87,7 @@ reader_of shards_option = is_shards
 reader_of sessions_option = is_sessions
 reader_of close_option = is_day
 reader_of control_option = is_port
+reader_of ahead_option = is_ahead
 reader_of journal_option = any_text
 reader_of sync_option = is_flag_value
 reader_of ledger_option = any_text

@@ -1,9 +1,9 @@
 -- What the words of `serve` say.
 use Rattle.std.specs.Prelude.{◌≡◌, ◌+◌, ◌-◌, ◌==◌, ◌&&◌, ℕ, List, [], ◌∷◌, Bool, true, not, Option, Some, None, IfSome, is_some, option_map, nat_le}
 use Rattle.pay_words.specs.declared.limits.TheConstants.{MOST_PORT, MOST_STAYING_LANES}
-use Rattle.pay_words.specs.OneWord.{Text, is_day, is_lanes, is_port, is_sessions, is_shards, number_of}
+use Rattle.pay_words.specs.OneWord.{Text, is_ahead, is_day, is_lanes, is_port, is_sessions, is_shards, number_of}
 use Rattle.pay_words.specs.Options.{AreParts, Grammar, Part, plain_words, values_of, fares_place, zone_place}
-use Rattle.pay_words.specs.Options.{port_option, lanes_option, shards_option, sessions_option, close_option, control_option, journal_option, ledger_option, early_option}
+use Rattle.pay_words.specs.Options.{port_option, lanes_option, shards_option, sessions_option, close_option, control_option, ahead_option, journal_option, ledger_option, early_option}
 use Rattle.pay_words.specs.Run.{flags, listed}
 
 -- what `serve` is asked for: a service that ends after so many connections, or one that stays
@@ -16,6 +16,7 @@ pub record Serve : Type 0 where
   pub sessions : Option ℕ
   pub close : Option ℕ
   pub control : Option ℕ
+  pub ahead : Option ℕ
   pub journal : Option Text
   pub ledger : Option Text
   pub early : Bool
@@ -30,6 +31,7 @@ pub record ServeTexts : Type 0 where
   pub sessions : Option Text
   pub close : Option Text
   pub control : Option Text
+  pub ahead : Option Text
   pub journal : Option Text
   pub ledger : Option Text
   pub early : Bool
@@ -37,7 +39,7 @@ pub record ServeTexts : Type 0 where
 abbrev pub serve_grammar : Grammar
 serve_grammar = record {
   places = fares_place ∷ zone_place ∷ [];
-  options = port_option ∷ lanes_option ∷ shards_option ∷ sessions_option ∷ close_option ∷ control_option ∷ journal_option ∷ ledger_option ∷ early_option ∷ [];
+  options = port_option ∷ lanes_option ∷ shards_option ∷ sessions_option ∷ close_option ∷ control_option ∷ ahead_option ∷ journal_option ∷ ledger_option ∷ early_option ∷ [];
 }
 
 abbrev pub numbers_of : ServeTexts → Serve
@@ -50,6 +52,7 @@ numbers_of t = record {
   sessions = option_map number_of t.sessions;
   close = option_map number_of t.close;
   control = option_map number_of t.control;
+  ahead = option_map number_of t.ahead;
   journal = t.journal;
   ledger = t.ledger;
   early = t.early;
@@ -59,7 +62,7 @@ numbers_of t = record {
 abbrev pub AreInRange : ServeTexts → Type 0
 AreInRange t = (is_port t.port ≡ true) × (is_lanes t.lanes ≡ true) × (is_shards t.shards ≡ true)
     × IfSome t.sessions (λ word. is_sessions word ≡ true) × IfSome t.close (λ word. is_day word ≡ true)
-    × IfSome t.control (λ word. is_port word ≡ true)
+    × IfSome t.control (λ word. is_port word ≡ true) × IfSome t.ahead (λ word. is_ahead word ≡ true)
 
 -- these parts have each option that both forms need once
 abbrev pub HaveNeeded : ServeTexts → List Part → Type 0
@@ -69,7 +72,7 @@ HaveNeeded t parts = (values_of port_option parts ≡ t.port ∷ []) × (values_
 -- these parts have each option of one form alone at most once
 abbrev pub HaveEnd : ServeTexts → List Part → Type 0
 HaveEnd t parts = (values_of sessions_option parts ≡ listed t.sessions) × (values_of close_option parts ≡ listed t.close)
-    × (values_of control_option parts ≡ listed t.control)
+    × (values_of control_option parts ≡ listed t.control) × (values_of ahead_option parts ≡ listed t.ahead)
 
 -- these parts are two values, in order, each option that both forms need once, and the others at most once
 abbrev pub ArePartsOf : ServeTexts → List Part → Type 0
@@ -84,9 +87,10 @@ last_port port lanes = port + lanes - 1
 abbrev pub has_ports : Serve → Bool
 has_ports s = nat_le (last_port s.port s.lanes) MOST_PORT
 
--- a service that ends serves so many connections, closes a day, and has a port for each lane
+-- a service that ends serves so many connections, closes a day, has no limit for taps ahead of the clock, and has a port
+-- for each lane
 abbrev pub may_end : Serve → Bool
-may_end s = is_some s.sessions && (is_some s.close && has_ports s)
+may_end s = is_some s.sessions && (is_some s.close && (not (is_some s.ahead) && has_ports s))
 
 -- it has no number of connections, and no day that is closed at its end
 abbrev pub has_no_end : Serve → Bool

@@ -29,8 +29,8 @@ ghost use Rattle.pay_words.specs.declared.words.WordsFault.TheVariants.{Memory};
 
 use crate::help;
 use crate::limits::{
-    FIRST_DAY, LAST_DAY, MOST_ACCOUNT, MOST_PORT, MOST_SERVED_LANES, MOST_SESSIONS, MOST_SHARDS,
-    MOST_STAYING_LANES,
+    FIRST_DAY, LAST_DAY, MOST_ACCOUNT, MOST_AHEAD, MOST_PORT, MOST_SERVED_LANES, MOST_SESSIONS,
+    MOST_SHARDS, MOST_STAYING_LANES,
 };
 use clap::builder::ValueParser;
 use clap::error::ErrorKind;
@@ -57,7 +57,7 @@ pub enum Job<'a> {
     /// `serve FARES ZONE --port P --lanes L --shards N --sessions K --close DAY` and the options that may be
     /// left out: sessions of several lanes at once, and the close of a day when all of them have ended.
     Serve(ServeWords<'a>),
-    /// `serve FARES ZONE --port P --lanes L --shards N --control C --journal FOLDER --ledger FILE` and the option
+    /// `serve FARES ZONE --port P --lanes L --shards N --control C --journal FOLDER --ledger FILE` and the options
     /// that may be left out: a service that stays, where a port for staff closes days and ends it.
     Stay(StayWords<'a>),
     /// `audit FARES ZONE --journal PATH` and its option: whether a journal, what is kept beside it and a ledger
@@ -152,7 +152,7 @@ pub struct ServeWords<'a> {
 }
 
 /// The values of `serve FARES ZONE --port P --lanes L --shards N --control C --journal FOLDER --ledger FILE
-/// [--early]`.
+/// [--ahead S] [--early]`.
 #[derive(Clone, Copy)]
 pub struct StayWords<'a> {
     /// The path of the fare file.
@@ -167,6 +167,8 @@ pub struct StayWords<'a> {
     pub shards: u8,
     /// The port of the staff, another than `port`.
     pub control: u16,
+    /// How many seconds a tap may be ahead of this machine's clock. Without it, any.
+    pub ahead: Option<u32>,
     /// The path of the folder of the shards' journals.
     pub journal: &'a str,
     /// The path of the SQLite file that days are closed into.
@@ -186,6 +188,7 @@ struct Service<'a> {
     sessions: Option<u32>,
     close: Option<u32>,
     control: Option<u16>,
+    ahead: Option<u32>,
     journal: Option<&'a str>,
     ledger: Option<&'a str>,
     early: bool,
@@ -247,7 +250,7 @@ impl From<AllocError> for WordsFault {
 /// `--` says that each word after it is a value. Numbers are decimal digits, which may have a plus and zeros
 /// before them; one outside its range is refused as `Usage`, and so are lanes with a port above 65,535. With
 /// `--control` a service stays. It then has no `--sessions` and no `--close`, at most 14 lanes, a journal and
-/// a ledger, and another port for its staff; without it, it has both `--sessions` and `--close`.
+/// a ledger, and another port for its staff; without it, it has both `--sessions` and `--close`, and no `--ahead`.
 pub fn read_words<'a>(alloc: Global, words: &'a [&'a str]) -> Result<Job<'a>, WordsFault>
     ensures job { IfOk result (λ job. asked (texts words.entry.now) ≡ job_asked job) }
     ensures refused { IfErr result (IsFaultOf (asked (texts words.entry.now))) }
@@ -498,7 +501,11 @@ fn with_end<'a>(alloc: Global, command: Command<'a>) -> Result<Command<'a>, Allo
         optional_number(alloc, "sessions", "K", help::SESSIONS, 1, MOST_SESSIONS),
         optional_number(alloc, "close", "DAY", help::CLOSE, FIRST_DAY, LAST_DAY),
     )?;
-    ended.arg(optional_number(alloc, "control", "C", help::CONTROL, 1, MOST_PORT))
+    with_two(
+        ended,
+        optional_number(alloc, "control", "C", help::CONTROL, 1, MOST_PORT),
+        optional_number(alloc, "ahead", "S", help::AHEAD, 0, MOST_AHEAD),
+    )
 }
 
 /// A word that has to be there.
@@ -769,13 +776,13 @@ fn service_job(words: Service<'_>) -> Result<Job<'_>, WordsFault>
     }
 }
 
-/// The job of a service that ends, where it has a number of connections and a day.
+/// The job of a service that ends, where it has a number of connections and a day, and no limit by the clock.
 fn ending_job(words: Service<'_>) -> Result<Job<'_>, WordsFault>
     requires { words.control ≡ None }
     ensures { IsAnswer (allowed (serve_asked (service_values words.entry))) result }
 {
     match (words.sessions, words.close) {
-        (Some(sessions), Some(close)) => job_with_ports(ServeWords {
+        (Some(sessions), Some(close)) if words.ahead.is_none() => job_with_ports(ServeWords {
             fares: words.fares,
             zone: words.zone,
             port: words.port,
@@ -806,6 +813,7 @@ fn staying_job(words: Service<'_>, control: u16) -> Result<Job<'_>, WordsFault>
                 lanes: words.lanes,
                 shards: words.shards,
                 control,
+                ahead: words.ahead,
                 journal,
                 ledger,
                 early: words.early,
@@ -860,6 +868,7 @@ fn serve_words<'a>(serve: &ArgMatches<'a>) -> Option<Service<'a>>
         sessions: number_of(serve, "sessions"),
         close: number_of(serve, "close"),
         control: port_of(serve, "control"),
+        ahead: number_of(serve, "ahead"),
         journal: serve.get_str("journal"),
         ledger: serve.get_str("ledger"),
         early: is_flagged(serve, "early"),
