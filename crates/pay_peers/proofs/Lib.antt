@@ -1,3 +1,4 @@
 pub mod Kept
+pub mod Crossing
 pub mod FirstWords
 pub mod Sent

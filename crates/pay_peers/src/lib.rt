@@ -1,7 +1,7 @@
 //! Many connections over one lane: [`Ready`] is a place at one port, whose connections are held as long as their peers like, and
 //! [`Control`] is one for staff, where days are closed, and who may stop the service or ask what it has done. A lane waits until some
 //! have something to read, takes a few pieces of each in turn, answers the lines that end in them, and keeps the rest with the
-//! connection. [`Tally`] is what all lanes of a service count together. `limits` says how many connections it holds, and how a lane
+//! connection. [`Shared`] is what all lanes of a service share, and [`Tally`] what they count together. `limits` says how many connections it holds, and how a lane
 //! divides its time.
 #![tactic(auto)]
 
@@ -12,8 +12,10 @@ mod peers;
 mod ready;
 mod sending;
 mod serving;
+mod shared;
 mod tally;
 mod word;
 
 pub use ready::{Control, Ports, Ready};
+pub use shared::Shared;
 pub use tally::Tally;

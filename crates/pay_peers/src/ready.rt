@@ -1,38 +1,23 @@
 //! Places of a service that stays: one for readers and customers, and one for staff.
 
 use crate::serving::Serving;
-use crate::tally::Tally;
+use crate::shared::Shared;
 use jiff::tz::TimeZone;
 use pay_office::Lane;
 use pay_serve::Place;
 use pay_session::{Port, Role};
 use pay_till::{NoTill, Till};
 use std::alloc::Global;
-use std::io::{Eprint, ErrorKind};
+use std::io::Eprint;
 use std::net::Net;
-use std::sync::atomic::AtomicBool;
-use std::sync::{Arc, Wait};
-use std::time::{Clock, Duration};
+use std::sync::Wait;
+use std::time::Clock;
 use std::{io, net};
-
-/// The clock of a port where nobody may ask for the time.
-#[derive(Clone, Copy)]
-struct NoClock;
-
-impl Clock for NoClock {
-    fn monotonic(&self) -> io::Result<Duration> {
-        Err(io::Error::from(ErrorKind::Unsupported))
-    }
-
-    fn since_1970(&self) -> io::Result<Duration> {
-        Err(io::Error::from(ErrorKind::Unsupported))
-    }
-}
 
 /// A port for readers and customers, which may be that of other lanes too.
 #[derive(Drop)]
-pub struct Ready {
-    serving: Serving<NoClock>,
+pub struct Ready<C> {
+    serving: Serving<C>,
 }
 
 /// Where a service is to be found on this host.
@@ -61,34 +46,32 @@ pub struct Control<E, T> {
     ports: Ports,
 }
 
-impl Ready {
-    /// A port at a listener. It ends once it is told to stop. Its connections are counted in a tally, and no more are held than that has
-    /// room for.
-    pub fn new<R: Net>(
-        rt: &R,
+impl<C: Net + Clock + Copy> Ready<C> {
+    /// A port at a listener. It ends once it is told to stop. Its connections are counted beside those of the lanes with which it shares
+    /// that, and no more are held than there is room for.
+    pub fn new(
+        rt: C,
         alloc: Global,
         listener: net::TcpListener,
-        stop: Arc<AtomicBool>,
-        tally: Arc<Tally>,
-    ) -> io::Result<Ready> {
-        let serving = Serving::new(rt, alloc, listener, stop, tally, NoClock)?;
+        shared: Shared,
+    ) -> io::Result<Ready<C>> {
+        let serving = Serving::new(&rt, alloc, listener, shared, rt)?;
         Ok(Ready { serving })
     }
 }
 
 impl<E: Net + Eprint + Clock + Copy, T: Till> Control<E, T> {
     /// A port at a listener, with a till. It ends once somebody asks for the service to stop, or it is told to. Its connections are counted
-    /// in the tally of the other lanes, beside theirs.
+    /// beside those of the other lanes.
     pub fn new(
         rt: E,
         alloc: Global,
         listener: net::TcpListener,
         ports: Ports,
-        stop: Arc<AtomicBool>,
-        tally: Arc<Tally>,
+        shared: Shared,
         till: T,
     ) -> io::Result<Control<E, T>> {
-        let serving = Serving::new(&rt, alloc, listener, stop, tally, rt)?;
+        let serving = Serving::new(&rt, alloc, listener, shared, rt)?;
         Ok(Control {
             serving,
             till,
@@ -105,7 +88,7 @@ fn say<E: Eprint>(rt: &E, ports: Ports) {
     );
 }
 
-impl Place for Ready {
+impl<C: Clock + Drop> Place for Ready<C> {
     ghost use Rattle.pay_session.specs.declared.port.Role.TheVariants.{Taps};
 
     ghost asks = { Taps };

@@ -9,7 +9,8 @@ use crate::fate::Fate;
 use crate::limits::{LONGEST_WAIT, MOST_ACCEPTED, MOST_EVENTS, MOST_FAILURES, PIECE_BYTES};
 use crate::peer::Peer;
 use crate::peers::Peers;
-use crate::tally::{Seat, Tally};
+use crate::shared::Shared;
+use crate::tally::Seat;
 use crate::word::Word;
 use mio::net::{TcpListener, TcpStream};
 use mio::{Events, Interest, Poll, Token};
@@ -19,7 +20,7 @@ use pay_shard::Desk;
 use pay_till::Till;
 use std::alloc::Global;
 use std::net::Net;
-use std::sync::atomic::{AtomicBool, Ordering};
+use std::sync::atomic::Ordering;
 use std::sync::{Arc, Wait};
 use std::time::{Clock, Duration, Instant};
 use std::{io, net};
@@ -36,9 +37,7 @@ pub struct Serving<C> {
     events: Events,
     peers: Peers,
     buffer: Vec<u8>,
-    // What tells the service to stop.
-    stop: Arc<AtomicBool>,
-    tally: Arc<Tally>,
+    shared: Shared,
     clock: C,
     // When it began to serve, if the clock could tell.
     began: Option<Instant>,
@@ -59,8 +58,7 @@ impl<C: Clock + Copy> Serving<C> {
         rt: &R,
         alloc: Global,
         listener: net::TcpListener,
-        stop: Arc<AtomicBool>,
-        tally: Arc<Tally>,
+        shared: Shared,
         clock: C,
     ) -> io::Result<Serving<C>> {
         listener.set_nonblocking(true)?;
@@ -75,8 +73,7 @@ impl<C: Clock + Copy> Serving<C> {
             events: Events::with_capacity(alloc, MOST_EVENTS)?,
             peers: Peers::new(alloc)?,
             buffer: Vec::from_elem(alloc, 0, PIECE_BYTES)?,
-            stop,
-            tally,
+            shared,
             clock,
             began: None,
             failures: 0,
@@ -96,7 +93,7 @@ impl<C: Clock> Serving<C> {
         ensures { result ≡ record { began = lane; lane = lane; waiting = [] } }
     {
         let desk = LaneDesk::new(rt, alloc, lane);
-        match Arc::clone(&self.stop) {
+        match Arc::clone(&self.shared.stop) {
             Ok(told) => desk.until(told),
             Err(_) => desk,
         }
@@ -115,12 +112,12 @@ impl<C: Clock> Serving<C> {
 
     /// Tells the whole service to stop.
     fn stop(&self) {
-        self.stop.store(true, Ordering::SeqCst);
+        self.shared.stop.store(true, Ordering::SeqCst);
     }
 
     /// Holds a connection, if there is room.
     fn hold(&mut self, stream: TcpStream, role: Role) -> Option<()> {
-        let seat = Seat::take(&self.tally, role)?;
+        let seat = Seat::take(&self.shared.tally, role)?;
         // A reply is not held back for the next one.
         let _ = stream.set_nodelay(true);
         let mut stream = stream;
@@ -135,8 +132,8 @@ impl<C: Clock> Serving<C> {
                 return;
             };
             match self.hold(stream, role) {
-                Some(()) => self.tally.count_held(),
-                None => self.tally.count_dropped(),
+                Some(()) => self.shared.tally.count_held(),
+                None => self.shared.tally.count_dropped(),
             }
         }
     }
@@ -152,7 +149,7 @@ impl<C: Clock> Serving<C> {
                 self.peers.at(place)?.say_bye()
             }
             (Role::All, Word::Stats) => {
-                let line = self.tally.line(self.alloc, self.seconds()).ok()?;
+                let line = self.shared.tally.line(self.alloc, self.seconds()).ok()?;
                 self.peers.at(place)?.say(line.as_bytes())
             }
         }
@@ -235,6 +232,13 @@ impl<C: Clock> Serving<C> {
         }
     }
 
+    /// The last instant that a tap may have now, if there is one. A clock that cannot be read refuses none.
+    fn latest(&self) -> Option<u64> {
+        let ahead = self.shared.ahead?;
+        let now = self.clock.since_1970().ok()?;
+        Some(now.as_secs().saturating_add(u64::from(ahead)))
+    }
+
     /// Waits, and serves what is ready.
     fn round<D: Desk, T: Till>(&mut self, port: Port<'_>, desk: &mut D, till: &mut T)
         ensures same_desk { (D.parts desk.new).standing ≡ (D.parts desk.old).standing }
@@ -247,7 +251,8 @@ impl<C: Clock> Serving<C> {
         // Each time, since one that was not taken is not told of again.
         self.accept(port.role);
         self.queue_ready();
-        self.serve_queued(port, desk, till);
+        let latest = self.latest();
+        self.serve_queued(Port { latest, ..port }, desk, till);
     }
 
     /// Sends each peer what waits for it, as far as the system takes it, and says that no more comes.
@@ -273,7 +278,7 @@ impl<C: Clock> Serving<C> {
         pay_session::laws::piece_by_piece();
         self.began = Instant::now(&self.clock).ok();
         for _ in rt.forever() {
-            if self.stop.load(Ordering::SeqCst) {
+            if self.shared.stop.load(Ordering::SeqCst) {
                 break;
             }
             self.round(port, desk, till);
