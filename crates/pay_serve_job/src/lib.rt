@@ -8,4 +8,4 @@ mod staying;
 
 pub use pay_serve::{Given, Plan};
 pub use service::{serve, serve_without_ledger, take_given};
-pub use staying::stay;
+pub use staying::{Staying, stay};

@@ -11,7 +11,7 @@ use pay_close::{LedgerTill, Watch};
 use pay_jobs::Fault;
 use pay_journal::Keeper;
 use pay_ledger::Ledger;
-use pay_peers::{Control, Ports, Ready, Tally};
+use pay_peers::{Control, Ports, Ready, Shared};
 use pay_serve::{Given, Plan, ServeFault, listen_on};
 use pay_till::Till;
 use sqlite::Alter;
@@ -23,6 +23,17 @@ use std::sync::atomic::AtomicBool;
 use std::sync::{Arc, Wait};
 use std::thread::Threads;
 use std::time::Clock;
+
+/// How a service stays.
+#[derive(Clone, Copy)]
+pub struct Staying<'a> {
+    /// The port of staff.
+    pub staff: u16,
+    /// How many seconds a tap may be ahead of the machine's clock: one that is more is refused by 1. Without it, none is.
+    pub ahead: Option<u32>,
+    /// What tells it to end, once it is true.
+    pub stop: &'a Arc<AtomicBool>,
+}
 
 /// What a port that is not to be had comes to: want of memory, or that the service cannot listen.
 fn fault_of_port(error: &io::Error) -> Fault
@@ -49,19 +60,17 @@ fn listen_at<R: Net<Listener = TcpListener, Stream = TcpStream>>(
 }
 
 /// A place at a listener, which is that of others too.
-fn place_at<R: Net>(
-    rt: &R,
+fn place_at<R: Net + Clock + Copy>(
+    rt: R,
     alloc: Global,
     listener: &TcpListener,
-    stop: &Arc<AtomicBool>,
-    tally: &Arc<Tally>,
-) -> Result<Ready, Fault>
+    shared: &Shared,
+) -> Result<Ready<R>, Fault>
     ensures { IfErr result IsNoPort }
 {
-    let stop = Arc::clone(stop)?;
-    let tally = Arc::clone(tally)?;
+    let shared = shared.again()?;
     let place = match listener.try_clone() {
-        Ok(listener) => Ready::new(rt, alloc, listener, stop, tally),
+        Ok(listener) => Ready::new(rt, alloc, listener, shared),
         Err(error) => Err(error),
     };
     match place {
@@ -71,21 +80,20 @@ fn place_at<R: Net>(
 }
 
 /// So many places at one port, one for each lane.
-fn places_at<R: Net<Listener = TcpListener, Stream = TcpStream>>(
-    rt: &R,
+fn places_at<R: Net<Listener = TcpListener, Stream = TcpStream> + Clock + Copy>(
+    rt: R,
     alloc: Global,
     port: u16,
     lanes: u8,
-    stop: &Arc<AtomicBool>,
-    tally: &Arc<Tally>,
-) -> Result<Vec<Ready>, Fault>
+    shared: &Shared,
+) -> Result<Vec<Ready<R>>, Fault>
     ensures count { IfOk result (λ places. length places.items ≡ lanes) }
     ensures fault { IfErr result IsNoPort }
 {
-    let listener = listen_at(rt, port)?;
+    let listener = listen_at(&rt, port)?;
     let mut places = Vec::with_capacity(alloc, lanes as usize)?;
     for _ in 0..lanes {
-        let place = place_at(rt, alloc, &listener, stop, tally)?;
+        let place = place_at(rt, alloc, &listener, shared)?;
         places.push_reserved(place);
     }
     Ok(places)
@@ -96,7 +104,7 @@ fn stay_at<R, K, T: Till>(
     rt: R,
     alloc: Global,
     given: Given<'_, K>,
-    places: Vec<Ready>,
+    places: Vec<Ready<R>>,
     control: Control<R, T>,
     stop: &AtomicBool,
 ) -> Result<(), Fault>
@@ -128,7 +136,7 @@ where
         keepers,
     };
     let mut gates = Vec::new(alloc);
-    match pay_serve::stay::<Book, R, K, Ready, Control<R, T>>(
+    match pay_serve::stay::<Book, R, K, Ready<R>, Control<R, T>>(
         rt, alloc, given, places, control, stop, &mut gates,
     ) {
         Ok(()) => Ok(()),
@@ -141,8 +149,7 @@ fn stay_over<R, K, S: Alter, C: Watch>(
     rt: R,
     alloc: Global,
     given: Given<'_, K>,
-    staff: u16,
-    stop: &Arc<AtomicBool>,
+    staying: Staying<'_>,
     ledger: &mut Ledger<S>,
     watch: &mut C,
 ) -> Result<(), Fault>
@@ -164,15 +171,14 @@ where
 {
     let ports = Ports {
         everybody: given.plan.port,
-        staff,
+        staff: staying.staff,
     };
-    let tally = Arc::new(alloc, Tally::new(alloc)?).map_err(AllocError::from)?;
-    let places = places_at(&rt, alloc, ports.everybody, given.plan.lanes, stop, &tally)?;
-    let listener = listen_at(&rt, staff)?;
-    let told = Arc::clone(stop)?;
+    let shared = Shared::new(alloc, staying.stop, staying.ahead)?;
+    let places = places_at(rt, alloc, ports.everybody, given.plan.lanes, &shared)?;
+    let listener = listen_at(&rt, ports.staff)?;
     let till = LedgerTill::new(alloc, ledger, watch);
-    match Control::new(rt, alloc, listener, ports, told, tally, till) {
-        Ok(control) => stay_at(rt, alloc, given, places, control, stop),
+    match Control::new(rt, alloc, listener, ports, shared, till) {
+        Ok(control) => stay_at(rt, alloc, given, places, control, staying.stop),
         Err(error) => Err(fault_of_port(&error)),
     }
 }
@@ -185,8 +191,7 @@ pub fn stay<R, K, S: Alter, C: Watch>(
     rt: R,
     alloc: Global,
     given: Given<'_, K>,
-    staff: u16,
-    stop: &Arc<AtomicBool>,
+    staying: Staying<'_>,
     ledger: &mut Ledger<S>,
     watch: &mut C,
 ) -> Result<(), Fault>
@@ -208,5 +213,5 @@ where
 {
     take_given(alloc, &given.editions, &given.zone, given.texts, ledger)?;
     watch.begins();
-    stay_over(rt, alloc, given, staff, stop, ledger, watch)
+    stay_over(rt, alloc, given, staying, ledger, watch)
 }
