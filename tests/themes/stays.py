@@ -300,6 +300,27 @@ class Stays(Theme):
                 self.check_talk("the next", reader, ((boarding(20_000), BOARDED), (boarding(1), AGAIN)))
             self.check_stopped("how the next ends", service)
 
+    def test_taps_ahead_of_the_clock(self):
+        """With --ahead a tap that is more seconds ahead of the clock is refused, and kept nowhere."""
+        for more, reply in (("--ahead", "3600"), "NO 1 OutOfTime\n"), ((), "OK "):
+            journals = new_folder(self.folder, f"journals{len(more)}")
+            with staying(journals, f"{journals}.db", more=more) as service:
+                now = int(time.time())
+                for name, port in (("everybody", service.port), ("staff", service.control)):
+                    with connected(port) as peer:
+                        for seconds, wanted in ((3000, "OK "), (7200, reply)):
+                            line = f"TAP {port} {seconds} 7 {now + seconds} 50 BUS\n"
+                            peer.sendall(line.encode())
+                            came = heard(peer, len(wanted))
+                            while wanted == "OK " and not came.endswith(b"\n"):
+                                came += heard(peer, 1)
+                            self.check_is(
+                                f"{seconds} ahead at the port of {name}, {more}", came.startswith(wanted.encode())
+                            )
+                self.check_stopped(f"how it ends, {more}", service)
+            kept = sum(bytes_of(path_of(journals, number)).count(b"\n") for number in range(16))
+            self.check(f"how many lines are kept, {more}", answers(str(kept).encode()), answers(b"2" if more else b"4"))
+
     def test_ports(self):
         """A port that is taken is a fault, before a line is answered; and both are free once a service has ended."""
         journals, ledger = self.files()

@@ -8,7 +8,7 @@ use pay_files::{
     print_warnings, ready_ledger, settle_journals,
 };
 use pay_jobs::{Alter, FaresAndZone, Fault, Keeper, Ledger};
-use pay_serve_job::{Given, Plan, stay};
+use pay_serve_job::{Given, Plan, Staying, stay};
 use pay_words::StayWords;
 use std::fs::File;
 use std::io::Eprint;
@@ -167,13 +167,10 @@ where
 {
     watch.take(ledger)?;
     keep_once_taken(&rt, &given, ledger, kept)?;
-    stay(
-        rt,
-        rt.alloc(),
-        given,
-        words.control,
-        failed,
-        ledger,
-        &mut watch,
-    )
+    let staying = Staying {
+        staff: words.control,
+        ahead: words.ahead,
+        stop: failed,
+    };
+    stay(rt, rt.alloc(), given, staying, ledger, &mut watch)
 }
