@@ -1,0 +1,3 @@
+pub mod Boardings
+pub mod Laws
+pub mod Words

@@ -1,0 +1,24 @@
+//! What is true of reasons themselves.
+
+ghost use Rattle.pay_why.specs.Laws.{ReasonsArePaying, FirstIsFirst, InstantsPay, InstantsTellTimes, ReasonsGiveBoardingFares};
+
+/// By its reason a boarding pays just when it pays by the Hopper rule. Only the first one has the reason
+/// that it is the first. The instant of any other is that of the last boarding before it that pays: longer
+/// ago than the Hopper time where it pays, and at most so long ago where it is free.
+pub fn boarding_reasons()
+    ensures paying { ReasonsArePaying }
+    ensures first { FirstIsFirst }
+    ensures instants { InstantsPay }
+    ensures times { InstantsTellTimes }
+{
+    pay_hopper::laws::one_set();
+    pay_hopper::laws::by_the_last();
+    pay_hopper::laws::last_paid_by_marks();
+}
+
+/// The reason of a boarding gives the fare of its journey, by the tables of its service day.
+pub fn boarding_fares()
+    ensures { ReasonsGiveBoardingFares }
+{
+    boarding_reasons();
+}
