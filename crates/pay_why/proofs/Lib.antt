@@ -1,2 +1,4 @@
 pub mod Fronts
 pub mod LastOnes
+pub mod ByRail
+mod ReasonRows

@@ -1,3 +1,6 @@
 pub mod Boardings
+pub mod Peaks
+pub mod LoneTaps
+pub mod RailReasons
 pub mod Laws
 pub mod Words

@@ -1,3 +1,7 @@
--- Words for the crates above: why a boarding pays or not.
+-- Words for the crates above: why a boarding pays or not, and why a journey by rail costs what it costs.
 pub use Rattle.pay_why.specs.Boardings.{last_paid_before, reason_after, boarding_reason, pays_by_reason, boarding_fare, IsLastPaying}
+pub use Rattle.pay_why.specs.Peaks.{peak_reason, peak_by_reason}
+pub use Rattle.pay_why.specs.LoneTaps.{lone_reason}
+pub use Rattle.pay_why.specs.RailReasons.{rail_reason, rail_fare}
 pub use Rattle.pay_why.specs.Laws.{ReasonsArePaying, FirstIsFirst, InstantsPay, InstantsTellTimes, ReasonsGiveBoardingFares}
+pub use Rattle.pay_why.specs.Laws.{PeakReasonsArePeak, ReasonsGiveRailFares, OnlyBoardingsHaveNone, StationLegsBySeconds, LateExitsAreLate, EarlyEntriesAreEarly}

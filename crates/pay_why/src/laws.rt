@@ -1,6 +1,7 @@
 //! What is true of reasons themselves.
 
 ghost use Rattle.pay_why.specs.Laws.{ReasonsArePaying, FirstIsFirst, InstantsPay, InstantsTellTimes, ReasonsGiveBoardingFares};
+ghost use Rattle.pay_why.specs.Laws.{PeakReasonsArePeak, ReasonsGiveRailFares, OnlyBoardingsHaveNone, StationLegsBySeconds, LateExitsAreLate, EarlyEntriesAreEarly};
 
 /// By its reason a boarding pays just when it pays by the Hopper rule. Only the first one has the reason
 /// that it is the first. The instant of any other is that of the last boarding before it that pays: longer
@@ -22,3 +23,26 @@ pub fn boarding_fares()
 {
     boarding_reasons();
 }
+
+/// By its reason a journey is peak just when it is.
+pub fn peak_reasons()
+    ensures { PeakReasonsArePeak }
+{}
+
+/// The reason of a journey by rail gives its fare, by the tables of its service day, and only a boarding
+/// has no such reason.
+pub fn rail_fares()
+    ensures fares { ReasonsGiveRailFares }
+    ensures none { OnlyBoardingsHaveNone }
+{
+    peak_reasons();
+}
+
+/// The times that reasons tell: a leg at one station is free up to `same_free` seconds, a late exit came
+/// more than the allowed seconds after the tap on the way in, and an early entry was as long before the
+/// tap on the way out.
+pub fn rail_times()
+    ensures station { StationLegsBySeconds }
+    ensures exits { LateExitsAreLate }
+    ensures entries { EarlyEntriesAreEarly }
+{}

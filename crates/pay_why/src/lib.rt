@@ -4,6 +4,18 @@
 mod boarding;
 mod boardings;
 pub mod laws;
+mod lone;
+mod lone_taps;
+mod peak;
+mod peaks;
+mod rail;
+mod rail_journeys;
 
 pub use boarding::BoardingReason;
 pub use boardings::{boarding_fare, boarding_reason};
+pub use lone::LoneReason;
+pub use lone_taps::lone_reason;
+pub use peak::PeakReason;
+pub use peaks::peak_reason;
+pub use rail::RailReason;
+pub use rail_journeys::rail_reason;
