@@ -1,5 +1,5 @@
 -- Worked rows of reasons, at stations 10 to 14 in zones 1, 1 and 2, 2, 2 and 3, 3.
-use Rattle.std.proofs.Common.{◌≡◌, ℕ, ◌+◌, ◌*◌, false, List, [], ◌∷◌, Some, None, refl}
+use Rattle.std.proofs.Common.{◌≡◌, ℕ, ◌+◌, ◌*◌, false, List, [], ◌∷◌, Some, None, refl, ap}
 use Rattle.std.specs.FinMap.{from_entries, get-from_entries}
 use Rattle.std.specs.Cmp.{nat_cmp_total}
 use Rattle.pay_tables.specs.declared.zones.Span.{Span}
@@ -18,7 +18,10 @@ use Rattle.pay_why.specs.declared.lone.LoneReason.TheVariants.{NoExit, LateExit,
 use Rattle.pay_why.specs.declared.rail.RailReason.{RailReason}
 use Rattle.pay_why.specs.declared.rail.RailReason.TheVariants.{SingleFare, FreeAtStation, SameStation, MaximumFare}
 use Rattle.pay_why.specs.LoneTaps.{lone_reason}
-use Rattle.pay_why.specs.RailReasons.{rail_reason, rail_fare}
+use Rattle.pay_rules.specs.RailJourneys.{alone}
+use Rattle.pay_rules.specs.Journeys.{rail_journeys}
+use Rattle.pay_why.specs.RailReasons.{run_reason, rail_reason, rail_fare}
+use Rattle.pay_why.specs.Places.{rail_reason_at}
 
 abbrev zones : ℕ → ℕ → Span
 zones from to = record { from = from; to = to }
@@ -39,7 +42,7 @@ sample = record {
   bands = [];
   holidays = 19_723 ∷ [];
   places = from_entries places;
-  interchanges = [];
+  interchanges = record { a = 10; b = 12; seconds = 1_200 } ∷ [];
 }
 
 abbrev editions : FareEditions
@@ -191,3 +194,40 @@ out_again = refl
 -- each costs the maximum fare
 at_the_maximum : IsFor (journey.Lone in_at_10) (MaximumFare NoExit) 860
 at_the_maximum = (refl, refl)
+
+-- ---- at their places among an account's journeys
+
+-- in and out at 10, a second more than half an hour apart
+abbrev two_alone : List Journey
+two_alone = rail_journeys editions (in_at_10 ∷ out_at_10 ∷ [])
+
+first_of_two : rail_reason_at editions two_alone 0 ≡ Some (MaximumFare (LateExit out_at_10.stamp 1_800))
+first_of_two = refl
+
+second_of_two : rail_reason_at editions two_alone 1 ≡ Some (MaximumFare (EarlyEntry in_at_10.stamp 1_800))
+second_of_two = refl
+
+no_third : rail_reason_at editions two_alone 2 ≡ None
+no_third = refl
+
+-- in at 14 and out at 12 at 07:20, out at 13 at 07:30, and in at 10 at 07:40 and out at 11: the tap between parts the two legs
+abbrev parted : List Touch
+parted = tap In 14 19_730 25_200 ∷ tap Out 12 19_730 26_400 ∷ tap Out 13 19_730 27_000 ∷ tap In 10 19_730 27_600 ∷ tap Out 11 19_730 28_200 ∷ []
+
+abbrev three : List Journey
+three = rail_journeys editions parted
+
+from_14_to_12 : run_reason sample (alone (leg 14 12 19_730 25_200 1_200)) ≡ SingleFare (zones 2 3) Morning
+from_14_to_12 = rw (at_14, at_12) refl
+
+from_10_to_11 : run_reason sample (alone (leg 10 11 19_730 27_600 600)) ≡ SingleFare (zones 1 1) Morning
+from_10_to_11 = rw (at_10, at_11) refl
+
+first_of_three : rail_reason_at editions three 0 ≡ Some (SingleFare (zones 2 3) Morning)
+first_of_three = rw (at_14, at_12) (ap Some from_14_to_12)
+
+second_of_three : rail_reason_at editions three 1 ≡ Some (MaximumFare NoEntry)
+second_of_three = rw (at_14, at_12) refl
+
+third_of_three : rail_reason_at editions three 2 ≡ Some (SingleFare (zones 1 1) Morning)
+third_of_three = rw (at_14, at_12, at_10, at_11) (ap Some from_10_to_11)

@@ -5,10 +5,10 @@ use Rattle.pay_tables.specs.declared.zones.Span.{Span}
 use Rattle.pay_tables.specs.Words.{FareEditions, FareTables, on}
 use Rattle.pay_rules.specs.declared.tap.Touch.{Touch}
 use Rattle.pay_rules.specs.Hopper.{instants_of, paying_marks}
-use Rattle.pay_rules.specs.Journeys.{is_bus, is_rail, boardings}
+use Rattle.pay_rules.specs.Journeys.{is_bus, is_rail, rail_journeys, boardings}
 use Rattle.pay_rules.specs.declared.parts.Leg.{Leg}
 use Rattle.pay_rules.specs.declared.journey.Journey.{Journey}
-use Rattle.pay_rules.specs.declared.journey.Journey.TheVariants.{Bus}
+use Rattle.pay_rules.specs.declared.journey.Journey.TheVariants.{Lone, Bus}
 use Rattle.pay_rules.specs.Legs.{is_leg}
 use Rattle.pay_rules.specs.RailJourneys.{first_tap}
 use Rattle.pay_rules.specs.Peak.{is_peak}
@@ -22,6 +22,7 @@ use Rattle.pay_why.specs.declared.rail.RailReason.TheVariants.{FreeAtStation, Sa
 use Rattle.pay_why.specs.Peaks.{peak_reason, peak_by_reason}
 use Rattle.pay_why.specs.LoneTaps.{lone_reason}
 use Rattle.pay_why.specs.RailReasons.{same_reason, rail_reason, rail_fare}
+use Rattle.pay_why.specs.Places.{tap_before, tap_after, rail_reason_at, AreBeside}
 use Rattle.pay_why.specs.Boardings.{boarding_reason, boarding_fare, pays_by_reason, IsLastPaying}
 
 -- by its reason a boarding pays just when it pays by the Hopper rule
@@ -85,3 +86,24 @@ abbrev pub EarlyEntriesAreEarly : Type 0
 EarlyEntriesAreEarly = (editions : FareEditions) (after : Option Touch) (entry exit : Touch) (instant : Stamp) (allowed : ℕ)
     → is_rail exit ≡ true → is_leg editions entry exit ≡ false → lone_reason editions (Some entry) exit after ≡ EarlyEntry instant allowed
     → (instant ≡ entry.stamp) × (instant.utc + allowed < exit.stamp.utc)
+
+-- each journey by rail of an account has a reason, which gives its fare
+abbrev pub JourneysHaveReasons : Type 0
+JourneysHaveReasons = (editions : FareEditions) (touches : List Touch) (place : ℕ) (journey : Journey)
+    → slice_get (rail_journeys editions touches) place ≡ Some journey
+    → (reason : RailReason)
+    × (rail_reason_at editions (rail_journeys editions touches) place ≡ Some reason)
+    × (rail_fare (on editions (first_tap journey).stamp.day) reason ≡ fare_by editions journey)
+
+-- the taps by which it goes are the rail taps right before and right after its own
+abbrev pub NeighboursAreBeside : Type 0
+NeighboursAreBeside = (editions : FareEditions) (touches : List Touch) (place : ℕ) (journey : Journey)
+    → slice_get (rail_journeys editions touches) place ≡ Some journey
+    → AreBeside (filter is_rail touches) (rail_journeys editions touches) place journey
+
+-- and a tap that stands alone is no leg with either of them
+abbrev pub LoneTapsAreNoLegs : Type 0
+LoneTapsAreNoLegs = (editions : FareEditions) (touches : List Touch) (place : ℕ) (tap : Touch)
+    → slice_get (rail_journeys editions touches) place ≡ Some (Lone tap)
+    → ((exit : Touch) → tap_after (rail_journeys editions touches) place ≡ Some exit → is_leg editions tap exit ≡ false)
+    × ((entry : Touch) → tap_before (rail_journeys editions touches) place ≡ Some entry → is_leg editions entry tap ≡ false)

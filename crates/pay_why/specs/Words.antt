@@ -3,5 +3,7 @@ pub use Rattle.pay_why.specs.Boardings.{last_paid_before, reason_after, boarding
 pub use Rattle.pay_why.specs.Peaks.{peak_reason, peak_by_reason}
 pub use Rattle.pay_why.specs.LoneTaps.{lone_reason}
 pub use Rattle.pay_why.specs.RailReasons.{rail_reason, rail_fare}
+pub use Rattle.pay_why.specs.Places.{last_tap, tap_before, tap_after, rail_reason_at, AreBeside}
 pub use Rattle.pay_why.specs.Laws.{ReasonsArePaying, FirstIsFirst, InstantsPay, InstantsTellTimes, ReasonsGiveBoardingFares}
 pub use Rattle.pay_why.specs.Laws.{PeakReasonsArePeak, ReasonsGiveRailFares, OnlyBoardingsHaveNone, StationLegsBySeconds, LateExitsAreLate, EarlyEntriesAreEarly}
+pub use Rattle.pay_why.specs.Laws.{JourneysHaveReasons, NeighboursAreBeside, LoneTapsAreNoLegs}

@@ -38,7 +38,8 @@ fn reason_after(tables: &Tables, last_paid: Option<Moment>, tap: &Touch) -> Boar
 /// `boardings` are all boardings of an account, in their order, and rail taps do not matter.
 ///
 /// By the Hopper rule it is free if the last boarding before it that paid was at most `hopper` seconds
-/// earlier. One between the two, which was free, does not count.
+/// earlier. One between the two, which was free, does not count. The Hopper time is that of the whole
+/// fare file, so `tables` may be those of any day.
 pub fn boarding_reason(tables: &Tables, boardings: &[Touch], place: usize) -> Option<BoardingReason>
     ensures { result ≡ boarding_reason tables.now.rules.hopper boardings.now place }
 {

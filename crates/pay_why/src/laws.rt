@@ -2,6 +2,7 @@
 
 ghost use Rattle.pay_why.specs.Laws.{ReasonsArePaying, FirstIsFirst, InstantsPay, InstantsTellTimes, ReasonsGiveBoardingFares};
 ghost use Rattle.pay_why.specs.Laws.{PeakReasonsArePeak, ReasonsGiveRailFares, OnlyBoardingsHaveNone, StationLegsBySeconds, LateExitsAreLate, EarlyEntriesAreEarly};
+ghost use Rattle.pay_why.specs.Laws.{JourneysHaveReasons, NeighboursAreBeside, LoneTapsAreNoLegs};
 
 /// By its reason a boarding pays just when it pays by the Hopper rule. Only the first one has the reason
 /// that it is the first. The instant of any other is that of the last boarding before it that pays: longer
@@ -46,3 +47,16 @@ pub fn rail_times()
     ensures exits { LateExitsAreLate }
     ensures entries { EarlyEntriesAreEarly }
 {}
+
+/// Each journey by rail of an account has a reason, which gives its fare. What it says of a tap that
+/// stands alone goes by the rail taps right before it and right after it, with neither of which it is a leg.
+pub fn rail_places()
+    ensures reasons { JourneysHaveReasons }
+    ensures beside { NeighboursAreBeside }
+    ensures alone { LoneTapsAreNoLegs }
+{
+    rail_fares();
+    pay_links::laws::one_division();
+    pay_links::laws::each_tap();
+    pay_pairs::laws::one_parting();
+}

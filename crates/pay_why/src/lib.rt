@@ -8,6 +8,7 @@ mod lone;
 mod lone_taps;
 mod peak;
 mod peaks;
+mod places;
 mod rail;
 mod rail_journeys;
 
@@ -17,5 +18,6 @@ pub use lone::LoneReason;
 pub use lone_taps::lone_reason;
 pub use peak::PeakReason;
 pub use peaks::peak_reason;
+pub use places::rail_reason_at;
 pub use rail::RailReason;
 pub use rail_journeys::rail_reason;
