@@ -40,10 +40,10 @@ def both_listening(port, control):
 
 
 @contextlib.contextmanager
-def staying(journals, ledger, lanes=2, shards=2, more=(), **how):
+def staying(journals, ledger, lanes=2, shards=2, more=(), fares=FARES, **how):
     """A service that stays, once it answers lines."""
     port = free_ports(2)
-    words = staying_words(port, port + 1, journals, ledger, lanes, shards, more=more)
+    words = staying_words(port, port + 1, journals, ledger, lanes, shards, fares, more)
     with started(words, stdin=subprocess.DEVNULL, **how) as ran:
         yield Staying(ran, port, port + 1, heard(ran.stderr, len(both_listening(port, port + 1))))
 
