@@ -5,6 +5,7 @@ taps while a day is closed. See README.md."""
 import argparse
 import contextlib
 import os
+import resource
 import select
 import socket
 import statistics
@@ -41,7 +42,11 @@ def staying(program, folder):
     with subprocess.Popen(words, stdin=subprocess.DEVNULL, stderr=subprocess.PIPE) as process:
         if not any(process.stderr.readline().startswith(b"farebox: listening") for _ in range(2)):
             sys.exit("stays: the service does not listen")
-        yield port, port + 1, process
+        try:
+            yield port, port + 1, process
+        except BaseException:
+            process.kill()
+            raise
         with socket.create_connection((HOST, port + 1)) as staff:
             staff.sendall(b"STOP\n")
             if staff.recv(100) != b"BYE\n" or process.wait(60):
@@ -50,10 +55,9 @@ def staying(program, folder):
 
 def line_of(peer):
     """What a peer hears through a newline, within a minute."""
+    peer.settimeout(60)
     came = b""
     while not came.endswith(b"\n"):
-        if not select.select([peer], [], [], 60)[0]:
-            sys.exit("stays: no reply came")
         more = peer.recv(1 << 16)
         if not more:
             sys.exit("stays: a connection ended")
@@ -67,6 +71,9 @@ def readers(port, first):
         peers = [opened.enter_context(socket.create_connection((HOST, port))) for _ in range(READERS)]
         for peer in peers:
             peer.setsockopt(socket.IPPROTO_TCP, socket.TCP_NODELAY, 1)
+        waiting, by_number = select.poll(), {peer.fileno(): peer for peer in peers}
+        for peer in peers:
+            waiting.register(peer, select.POLLIN)
         took = []
         for turn in range(ROUNDS):
             sent = {}
@@ -74,7 +81,8 @@ def readers(port, first):
                 sent[peer] = time.perf_counter()
                 peer.sendall(boarding(first + turn * READERS + number))
             while sent:
-                for peer in select.select(list(sent), [], [], 60)[0]:
+                for number, _ in waiting.poll(60_000):
+                    peer = by_number[number]
                     line_of(peer)
                     took.append(time.perf_counter() - sent.pop(peer))
             time.sleep(0.02)
@@ -142,6 +150,10 @@ def main():
     parse.add_argument("--silent", type=int, default=2_000, help="how many connections are silent")
     parse.add_argument("--accounts", type=int, default=100_000, help="how many accounts are closed")
     given = parse.parse_args()
+    most = resource.getrlimit(resource.RLIMIT_NOFILE)[1]
+    resource.setrlimit(resource.RLIMIT_NOFILE, (most, most))
+    if given.silent + READERS + 100 > most:
+        sys.exit(f"stays: the system allows {most:,} open files, too few for {given.silent:,} connections")
     build()
     print(f"{'':46}{'median':>11} {'99 of 100':>11} {'longest':>11}")
     with tempfile.TemporaryDirectory() as folder, staying(PROGRAM, folder) as (port, control, process):
