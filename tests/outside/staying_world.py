@@ -195,7 +195,10 @@ def check_ledger(world, accounts):
 def check_journals(world, accounts):
     """That the journals have what was accepted, each line once, and that `replay` and `audit` say so."""
     paths = [os.path.join(world.journals, it) for it in sorted(os.listdir(world.journals)) if it.endswith(".lines")]
-    has = collections.Counter(line for path in paths for line in running.bytes_of(path).splitlines(True))
+    texts = [running.bytes_of(path) for path in paths]
+    # What stands after a last newline is no line: what was left of one that had no room.
+    has = collections.Counter(line for text in texts for line in text.splitlines(True) if line.endswith(b"\n"))
+    rest = sum(len(text) - text.rfind(b"\n") - 1 for text in texts)
     wanted = collections.Counter(it.text for it in world.known.values() if it.is_taken)
     if has != wanted:
         more, fewer = list((has - wanted).elements()), list((wanted - has).elements())
@@ -204,7 +207,8 @@ def check_journals(world, accounts):
         )
     instants = [tap.utc for it in accounts.values() for tap in it.taps.values()]
     instants += [fix.words[0] for it in accounts.values() for fix in it.fixes.values() if fix.form == "FILL"]
-    counts = f"OK lines {len(wanted)} accounts {len(accounts)} from {min(instants)} to {max(instants)}\n"
+    counts = f"OK lines {len(wanted)} accounts {len(accounts)} from {min(instants)} to {max(instants)}"
+    counts += f" rest {rest}\n" if rest else "\n"
     files = ["--journal", world.journals, "--ledger", world.ledger]
     for name, came, wanted in (
         ("replay", replayed(*paths, fares=SAMPLE), counts.encode()),
