@@ -8,7 +8,7 @@ import time
 
 from support.journals import new_folder
 from support.kept import rows_of_ledger
-from support.running import MONDAY, RUN, SEVEN, answers, bytes_of, end_of, fault, heard, limited_to, run, written
+from support.running import MONDAY, RUN, SEVEN, answers, bytes_of, fault, heard, limited_to, run, written
 from support.serving import (
     boarding, break_off, come_and_go, connected, ended, is_free, paid, rest_of, side_by_side, talk, talk_ahead,
 )
@@ -17,7 +17,6 @@ from support.theme import Theme
 
 CREDIT = "FIX 3 1 7 CREDIT 19730 25\n"
 BOARDED, AGAIN, NOT_HERE = "OK 19730 175 175\n", "AGAIN 19730 175 175\n", "NO 34 NotHere\n"
-SUNDAY = MONDAY + 6
 
 
 def due(account, pence=175):
@@ -176,8 +175,7 @@ class Stays(Theme):
                 (b"fly\n" + boarding(7).encode(), b"NO 50 BadLine\n"),
             )):
                 for name, port in (("everybody", service.port), ("staff", service.control)):
-                    with contextlib.suppress(ConnectionResetError):
-                        self.check(f"stranger {number} at the port of {name}", answers(talk(port, text)), answers(reply))
+                    self.check(f"stranger {number} at the port of {name}", answers(talk(port, text)), answers(reply))
             come_and_go(service.port, 300)
             with connected(service.port) as gone:
                 gone.sendall(boarding(7).encode()[:12])
@@ -279,7 +277,6 @@ class Stays(Theme):
             self.check_stopped("a first one", service)
         many = "".join(boarding(account) for account in range(2, 12_000, 2)).encode()
         path = written(journals, "0.lines", many)
-        begun = time.monotonic()
         with staying(journals, ledger, **limited_to(len(many) + 5)) as service:
             with connected(service.port) as reader, connected(service.port) as other:
                 self.check_talk("what is kept already", reader, ((boarding(2), AGAIN), (boarding(1), BOARDED)))
