@@ -1,5 +1,6 @@
 pub mod AskedAt
 pub mod AskedFor
+pub mod AtPorts
 pub mod BegunLines
 pub mod Fills
 pub mod InputLines

@@ -1,5 +1,6 @@
 pub mod Requests
 pub mod Asks
+pub mod AtPorts
 pub mod AskedFor
 pub mod Calls
 pub mod Events

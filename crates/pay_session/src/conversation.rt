@@ -1,11 +1,10 @@
 //! The lines of one peer, in pieces.
 ghost use Rattle.std.specs.Prelude.{◌≡◌, ◌≤◌, false, [], length, IfOk, IfErr, OnOk, OnErr, IfSome, IfNone};
+ghost use Rattle.pay_session.specs.AtPorts.{HasAnsweredAt};
 ghost use Rattle.pay_session.specs.Pieces.{TakesPiece, TakesThroughQuit, StopsInPiece, EndsPieces, StopsAtEnd};
-ghost use Rattle.pay_session.specs.Ports.{AreAskedAt};
 ghost use Rattle.pay_session.specs.Requests.{has_newline};
 ghost use Rattle.pay_session.specs.SessionSteps.{at_hand};
 ghost use Rattle.pay_session.specs.Stops.{IsWriteFailure};
-ghost use Rattle.pay_shard.specs.Words.{NothingIsLost};
 ghost use Rattle.pay_wire.specs.Words.{IsCaused};
 
 use crate::port::Port;
@@ -70,9 +69,8 @@ fn take_by<W: KnownWriter, D: Desk, T: Till>(
     ensures breaks { OnErr result (StopsInPiece D.parts T.Closes service.old.port piece.now
         (at_hand service.old progress.old (W.contents writer.old)) (at_hand service.new progress.new (W.contents writer.new))) }
     ensures cause { IfErr result (λ fault. IsCaused W.MayAnswer fault writer.new) }
-    ensures asked { AreAskedAt service.old.port.zone.now service.old.port.role (D.parts service.old.desk.now).taken (D.parts service.new.desk.now).taken }
-    ensures transcript { NothingIsLost (D.parts service.old.desk.now).transcript (D.parts service.new.desk.now).transcript }
-    ensures same_desk { (D.parts service.new.desk.now).standing ≡ (D.parts service.old.desk.now).standing }
+    ensures answered { HasAnsweredAt D.parts T.Closes (service.old.port.zone.now, service.old.port.role)
+        (service.old.desk.now, service.old.till.now) (service.new.desk.now, service.new.till.now) }
     ensures same_till { T.origin service.new.till.now ≡ T.origin service.old.till.now }
 {
     match progress.take(service, piece, writer) {
@@ -103,9 +101,8 @@ fn end_by<W: KnownWriter, D: Desk, T: Till>(
     ensures breaks { OnErr result (StopsAtEnd D.parts T.Closes service.old.port
         (at_hand service.old progress.old (W.contents writer.old)) (at_hand service.new progress.new (W.contents writer.new))) }
     ensures cause { IfErr result (λ fault. IsCaused W.MayAnswer fault writer.new) }
-    ensures asked { AreAskedAt service.old.port.zone.now service.old.port.role (D.parts service.old.desk.now).taken (D.parts service.new.desk.now).taken }
-    ensures transcript { NothingIsLost (D.parts service.old.desk.now).transcript (D.parts service.new.desk.now).transcript }
-    ensures same_desk { (D.parts service.new.desk.now).standing ≡ (D.parts service.old.desk.now).standing }
+    ensures answered { HasAnsweredAt D.parts T.Closes (service.old.port.zone.now, service.old.port.role)
+        (service.old.desk.now, service.old.till.now) (service.new.desk.now, service.new.till.now) }
     ensures same_till { T.origin service.new.till.now ≡ T.origin service.old.till.now }
 {
     match progress.end(service, writer) {
@@ -150,9 +147,7 @@ impl Conversation {
         ensures breaks { OnErr result (StopsInPiece D.parts T.Closes port.entry piece.now
             (desk.old, till.old, self.old, W.contents writer.old) (desk.new, till.new, self.new, W.contents writer.new)) }
         ensures cause { IfErr result (λ fault. IsCaused W.MayAnswer fault writer.new) }
-        ensures asked { AreAskedAt port.entry.zone.now port.entry.role (D.parts desk.old).taken (D.parts desk.new).taken }
-        ensures transcript { NothingIsLost (D.parts desk.old).transcript (D.parts desk.new).transcript }
-        ensures same_desk { (D.parts desk.new).standing ≡ (D.parts desk.old).standing }
+        ensures answered { HasAnsweredAt D.parts T.Closes (port.entry.zone.now, port.entry.role) (desk.old, till.old) (desk.new, till.new) }
         ensures same_till { T.origin till.new ≡ T.origin till.old }
     {
         take_by(
@@ -175,9 +170,7 @@ impl Conversation {
         ensures ends { OnOk result (EndsPieces D.parts T.Closes port.entry (desk.old, till.old, self.old, W.contents writer.old) (desk.new, till.new, self.new, W.contents writer.new)) }
         ensures breaks { OnErr result (StopsAtEnd D.parts T.Closes port.entry (desk.old, till.old, self.old, W.contents writer.old) (desk.new, till.new, self.new, W.contents writer.new)) }
         ensures cause { IfErr result (λ fault. IsCaused W.MayAnswer fault writer.new) }
-        ensures asked { AreAskedAt port.entry.zone.now port.entry.role (D.parts desk.old).taken (D.parts desk.new).taken }
-        ensures transcript { NothingIsLost (D.parts desk.old).transcript (D.parts desk.new).transcript }
-        ensures same_desk { (D.parts desk.new).standing ≡ (D.parts desk.old).standing }
+        ensures answered { HasAnsweredAt D.parts T.Closes (port.entry.zone.now, port.entry.role) (desk.old, till.old) (desk.new, till.new) }
         ensures same_till { T.origin till.new ≡ T.origin till.old }
     {
         end_by(

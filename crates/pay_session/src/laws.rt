@@ -5,12 +5,12 @@ ghost use Rattle.std.specs.List.{AllByRecursion, flat_map};
 ghost use Rattle.pay_wire.specs.declared.command.SpelledCommand.TheVariants.{Quit};
 ghost use Rattle.pay_wire.specs.declared.limits.TheConstants.{MOST_LINE_BYTES};
 ghost use Rattle.pay_session.specs.declared.request.Request.TheVariants as requests;
-ghost use Rattle.jiff.specs.declared.tz.timezone.TimeZone.{TimeZone};
-ghost use Rattle.pay_shard.specs.declared.asked.Asked.{Asked};
+ghost use Rattle.pay_session.specs.AtPorts.{AnswersNobody, AnswersOn};
 ghost use Rattle.pay_session.specs.Pieces.{IsAfter};
-ghost use Rattle.pay_session.specs.Ports.{AreAskedAt};
-ghost use Rattle.pay_session.specs.declared.port.Role.{Role};
 ghost use Rattle.pay_session.specs.Requests.{InputLine, input_lines, rest_of, has_newline, request_of, line_requests, requests_of, quits, unread, HasOneCutting, IsReadByLine, SpellsNothing};
+
+use pay_shard::Desk;
+use pay_till::Till;
 
 /// The lines and the rest are the input, cut at its newlines, and no other cutting is.
 pub fn cut_at_newlines()
@@ -60,11 +60,10 @@ pub fn line_by_line()
     ensures { IsReadByLine }
 {}
 
-/// A conversation begins before all bytes. What a desk took for one piece after another is asked for at their port, and where it took nothing
-/// too.
-pub fn piece_by_piece()
+/// A conversation begins before all bytes. What is answered over a desk and a till for one piece after another is one answering, and so is
+/// nothing.
+pub fn piece_by_piece<D: Desk, T: Till>()
     ensures first { IsAfter [] [] }
-    ensures none { (zone : TimeZone) (role : Role) (taken : List (ℕ × Asked)) → AreAskedAt zone role taken taken }
-    ensures after { (zone : TimeZone) (role : Role) (before between after : List (ℕ × Asked))
-        → AreAskedAt zone role before between → AreAskedAt zone role between after → AreAskedAt zone role before after }
+    ensures none { AnswersNobody D.parts T.Closes }
+    ensures after { AnswersOn D.parts T.Closes }
 {}

@@ -1,4 +1,5 @@
-use Rattle.pay_session.proofs.OverDesk.{ran, asked_at}
+use Rattle.pay_session.proofs.AtPorts.{answered}
+use Rattle.pay_session.proofs.OverDesk.{ran}
 use Rattle.pay_session.proofs.Pieces.{ends_pieces, stops_at_end}
 use Rattle.pay_session.proofs.conversation.end_by.Goals as goal
 
@@ -11,14 +12,8 @@ returns-in-Ok-clause-till_name g c = (ran g.D.Desk.parts g.T.Till.Closes g.T.Til
 pub returns-in-Ok-clause-ends : goal.returns-in-Ok-clause-ends
 returns-in-Ok-clause-ends g c = ends_pieces g.D.Desk.parts g.T.Till.Closes g.T.Till.origin _ _ _ c.end.new.self _ _ c.requires.begun c.in-Ok.ensures.ends c.new.result
 
-pub returns-in-Ok-clause-asked : goal.returns-in-Ok-clause-asked
-returns-in-Ok-clause-asked g c = asked_at g.D.Desk.parts g.T.Till.Closes g.T.Till.origin _ _ c.end.ensures.ran
-
-pub returns-in-Ok-clause-transcript : goal.returns-in-Ok-clause-transcript
-returns-in-Ok-clause-transcript g c = (ran g.D.Desk.parts g.T.Till.Closes g.T.Till.origin _ _ c.end.ensures.ran).kept
-
-pub returns-in-Ok-clause-same_desk : goal.returns-in-Ok-clause-same_desk
-returns-in-Ok-clause-same_desk g c = (ran g.D.Desk.parts g.T.Till.Closes g.T.Till.origin _ _ c.end.ensures.ran).same
+pub returns-in-Ok-clause-answered : goal.returns-in-Ok-clause-answered
+returns-in-Ok-clause-answered g c = answered g.D.Desk.parts g.T.Till.Closes g.T.Till.origin _ _ c.end.ensures.ran
 
 pub returns-in-Ok-clause-same_till : goal.returns-in-Ok-clause-same_till
 returns-in-Ok-clause-same_till g c = (ran g.D.Desk.parts g.T.Till.Closes g.T.Till.origin _ _ c.end.ensures.ran).same_till
@@ -32,14 +27,8 @@ returns-in-Err-clause-till_name g c = (ran g.D.Desk.parts g.T.Till.Closes g.T.Ti
 pub returns-in-Err-clause-breaks : goal.returns-in-Err-clause-breaks
 returns-in-Err-clause-breaks g c = stops_at_end g.D.Desk.parts g.T.Till.Closes g.T.Till.origin _ _ _ c.end.new.self _ _ c.requires.begun c.in-Err.ensures.falters c.new-in-Err.result
 
-pub returns-in-Err-clause-asked : goal.returns-in-Err-clause-asked
-returns-in-Err-clause-asked g c = asked_at g.D.Desk.parts g.T.Till.Closes g.T.Till.origin _ _ c.end.ensures.ran
-
-pub returns-in-Err-clause-transcript : goal.returns-in-Err-clause-transcript
-returns-in-Err-clause-transcript g c = (ran g.D.Desk.parts g.T.Till.Closes g.T.Till.origin _ _ c.end.ensures.ran).kept
-
-pub returns-in-Err-clause-same_desk : goal.returns-in-Err-clause-same_desk
-returns-in-Err-clause-same_desk g c = (ran g.D.Desk.parts g.T.Till.Closes g.T.Till.origin _ _ c.end.ensures.ran).same
+pub returns-in-Err-clause-answered : goal.returns-in-Err-clause-answered
+returns-in-Err-clause-answered g c = answered g.D.Desk.parts g.T.Till.Closes g.T.Till.origin _ _ c.end.ensures.ran
 
 pub returns-in-Err-clause-same_till : goal.returns-in-Err-clause-same_till
 returns-in-Err-clause-same_till g c = (ran g.D.Desk.parts g.T.Till.Closes g.T.Till.origin _ _ c.end.ensures.ran).same_till

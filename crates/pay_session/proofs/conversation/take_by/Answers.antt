@@ -1,4 +1,5 @@
-use Rattle.pay_session.proofs.OverDesk.{ran, asked_at}
+use Rattle.pay_session.proofs.AtPorts.{answered}
+use Rattle.pay_session.proofs.OverDesk.{ran}
 use Rattle.pay_session.proofs.Pieces.{takes_piece, takes_quit, stops_in_piece}
 use Rattle.pay_session.proofs.conversation.take_by.Goals as goal
 
@@ -14,14 +15,8 @@ returns-in-Ok-clause-all g c = rw c.count_anew.ensures (takes_piece g.D.Desk.par
 pub returns-in-Ok-clause-quit : goal.returns-in-Ok-clause-quit
 returns-in-Ok-clause-quit g c = rw c.count_anew.ensures (takes_quit g.D.Desk.parts g.T.Till.Closes g.T.Till.origin _ _ _ _ _ _ c.in-Ok.left c.args.piece.now c.in-Ok.ensures.quit)
 
-pub returns-in-Ok-clause-asked : goal.returns-in-Ok-clause-asked
-returns-in-Ok-clause-asked g c = asked_at g.D.Desk.parts g.T.Till.Closes g.T.Till.origin _ _ c.take.ensures.ran
-
-pub returns-in-Ok-clause-transcript : goal.returns-in-Ok-clause-transcript
-returns-in-Ok-clause-transcript g c = (ran g.D.Desk.parts g.T.Till.Closes g.T.Till.origin _ _ c.take.ensures.ran).kept
-
-pub returns-in-Ok-clause-same_desk : goal.returns-in-Ok-clause-same_desk
-returns-in-Ok-clause-same_desk g c = (ran g.D.Desk.parts g.T.Till.Closes g.T.Till.origin _ _ c.take.ensures.ran).same
+pub returns-in-Ok-clause-answered : goal.returns-in-Ok-clause-answered
+returns-in-Ok-clause-answered g c = answered g.D.Desk.parts g.T.Till.Closes g.T.Till.origin _ _ c.take.ensures.ran
 
 pub returns-in-Ok-clause-same_till : goal.returns-in-Ok-clause-same_till
 returns-in-Ok-clause-same_till g c = (ran g.D.Desk.parts g.T.Till.Closes g.T.Till.origin _ _ c.take.ensures.ran).same_till
@@ -35,14 +30,8 @@ returns-in-Err-clause-till_name g c = (ran g.D.Desk.parts g.T.Till.Closes g.T.Ti
 pub returns-in-Err-clause-breaks : goal.returns-in-Err-clause-breaks
 returns-in-Err-clause-breaks g c = stops_in_piece g.D.Desk.parts g.T.Till.Closes g.T.Till.origin _ _ _ c.take.new.self _ _ c.args.piece.now c.in-Err.ensures.breaks c.new.result
 
-pub returns-in-Err-clause-asked : goal.returns-in-Err-clause-asked
-returns-in-Err-clause-asked g c = asked_at g.D.Desk.parts g.T.Till.Closes g.T.Till.origin _ _ c.take.ensures.ran
-
-pub returns-in-Err-clause-transcript : goal.returns-in-Err-clause-transcript
-returns-in-Err-clause-transcript g c = (ran g.D.Desk.parts g.T.Till.Closes g.T.Till.origin _ _ c.take.ensures.ran).kept
-
-pub returns-in-Err-clause-same_desk : goal.returns-in-Err-clause-same_desk
-returns-in-Err-clause-same_desk g c = (ran g.D.Desk.parts g.T.Till.Closes g.T.Till.origin _ _ c.take.ensures.ran).same
+pub returns-in-Err-clause-answered : goal.returns-in-Err-clause-answered
+returns-in-Err-clause-answered g c = answered g.D.Desk.parts g.T.Till.Closes g.T.Till.origin _ _ c.take.ensures.ran
 
 pub returns-in-Err-clause-same_till : goal.returns-in-Err-clause-same_till
 returns-in-Err-clause-same_till g c = (ran g.D.Desk.parts g.T.Till.Closes g.T.Till.origin _ _ c.take.ensures.ran).same_till
