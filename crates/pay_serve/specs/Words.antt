@@ -9,4 +9,4 @@ pub use Rattle.pay_serve.specs.Machines.{AreFronts, IsOneClose, IsAskedAfter, Ar
 pub use Rattle.pay_serve.specs.Keeping.{is_other, is_kept, kept_line, kept_lines, of_others}
 pub use Rattle.pay_serve.specs.KeepingGates.{GateParts, gate_code, WereSettled, HoldsPassed}
 pub use Rattle.pay_serve.specs.Kept.{IsAllOrButLast, answered_of, HasKept, HasKeptNone, PassedAreKept, KeptAreNew}
-pub use Rattle.pay_serve.specs.Stays.{HasStayed, IsStayed}
+pub use Rattle.pay_serve.specs.Stays.{HasAnsweredOver, IsCloseOfOne, HasStayed, IsStayed}

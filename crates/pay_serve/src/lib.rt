@@ -33,7 +33,7 @@ pub use given::Given;
 pub use journals::{take_again, take_through};
 pub use lanes::{begin_lanes, serve_lanes};
 pub use listening::{listen, listen_on};
-pub use place::Place;
+pub use place::{Place, StaffPlace};
 pub use plan::Plan;
 pub use served_lanes::ServedLanes;
 pub use service::{serve, serve_gated};

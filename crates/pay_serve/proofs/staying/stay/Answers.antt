@@ -4,6 +4,7 @@ use Rattle.std.proofs.lemmas.Slice.Zip.{AllZip-long}
 use Rattle.jiff.specs.declared.tz.timezone.TimeZone.{TimeZone}
 use Rattle.pay_journal.specs.Words.{CanFail}
 use Rattle.pay_session.specs.declared.port.Role.{Role}
+use Rattle.pay_session.specs.declared.port.Role.TheVariants as role
 use Rattle.pay_lanes.specs.Words.{IsNewLane, IsSameLane}
 use Rattle.pay_serve.specs.KeepingGates.{HoldsPassed}
 use Rattle.pay_serve.specs.Closes.{terms_of}
@@ -15,7 +16,7 @@ use Rattle.pay_serve.proofs.LinesAsked.{all_same, all_asked}
 use Rattle.pay_serve.proofs.NoneKept.{none_kept}
 use Rattle.pay_serve.proofs.ServeCauses.{line_stopped, taken_cause}
 use Rattle.pay_serve.proofs.Served.{all_kept}
-use Rattle.pay_serve.proofs.Stays.{others_are, last_is, all_gone_on, one_asked, refused_stays, lane_stays, unserved_stay_cause, lane_stay_cause}
+use Rattle.pay_serve.proofs.Stays.{others_are, last_is, all_gone_on, one_asked, staff_asked, staff_closes, refused_stays, lane_stays, unserved_stay_cause, lane_stay_cause}
 use Rattle.pay_serve.proofs.staying.stay.Goals as goal
 
 -- a line was not accepted, and no lane was served
@@ -34,7 +35,7 @@ returns-in-Err-clause-stayed g c =
     let over = c.end.ensures.over in
     let none = none_kept (HoldsPassed K.holds K.HasFailed K.IsSettled) c.in_ok-office.office ls last (length c.in_ok-office.office) c.end.result.items over.0.0 over.0.1 back.1 opened.others (c.take_through-taken.ensures.same.number ∙ opened.spared.0) over.0.2 over.1
     (all_kept K.holds K.HasFailed K.IsSettled c.passed_are_kept.ensures _ over.1.workers c.end.result.items over.1.passed) in
-    refused_stays (HoldsPassed K.holds K.HasFailed K.IsSettled) (g.P.Place.asks, g.C.Place.asks) (terms_of K c.args.given) c.end.result.items c.args.given.plan c.in-Err.fault (c.end.ensures.began ∙ opened.began) none
+    refused_stays (HoldsPassed K.holds K.HasFailed K.IsSettled) g.T.Till.Closes g.P.Place.asks (terms_of K c.args.given) _ c.end.result.items c.args.given.plan c.in-Err.fault (c.end.ensures.began ∙ opened.began) none
     (taken_cause _ _ c.args.given.plan 0 _ _ c.take_through-taken.result.0 c.in-Err.fault c.take_through-taken.ensures.taken.taken c.in-Err.is)
     (line_stopped (terms_of K c.args.given) c.in_ok-office.office c.in_ok-office.first last c.in-Err.fault opened.new opened.spared
     (subst (AreTakenThrough c.args.given.zone (map vec_items c.args.given.texts.now) c.in_ok-office.first last) c.in-Err.is c.take_through-taken.ensures.taken)
@@ -74,7 +75,7 @@ returns-in-Err-begin_lanes-clause-stayed g c =
     let back = all_back c.still_together.ensures.in_order c.same_workers.ensures.itself c.in_ok-office.office ls ks c.in_ok-office.first last
     (subst (AllZip IsSameLane ls) (sym same) (lanes_same c.same_lanes.ensures.itself ls)) c.take_through-taken.ensures.same opened.all in
     let over = c.end-in-Err-begin_lanes.ensures.over in
-    lane_stays (HoldsPassed K.holds K.HasFailed K.IsSettled) (g.P.Place.asks, g.C.Place.asks) (terms_of K c.args.given) c.end-in-Err-begin_lanes.result.items c.in-Err-begin_lanes.fault _ (c.end-in-Err-begin_lanes.ensures.began ∙ opened.began)
+    lane_stays (HoldsPassed K.holds K.HasFailed K.IsSettled) g.T.Till.Closes g.P.Place.asks (terms_of K c.args.given) _ c.end-in-Err-begin_lanes.result.items c.in-Err-begin_lanes.fault _ (c.end-in-Err-begin_lanes.ensures.began ∙ opened.began)
     (none_kept (HoldsPassed K.holds K.HasFailed K.IsSettled) c.in_ok-office.office ks last (length c.in_ok-office.office) c.end-in-Err-begin_lanes.result.items over.0.0 over.0.1 back.1
     (subst (All (IsNewLane (length c.in_ok-office.office))) (sym same) opened.others)
     (c.take_through-taken.ensures.same.number ∙ opened.spared.0) over.0.2 over.1
@@ -119,6 +120,11 @@ returns-then-is_one_stuck-clause-stayed g c =
     let port : TimeZone × Role = (c.args.given.zone, g.P.Place.asks) in
     let gone = c.end-back.ensures.served port c.pop.new.self.items c.in-Ok-begin_lanes.ensures.begun in
     let items = c.push_reserved-in-Ok-begin_lanes.ensures.items in
+    let new_staff = last_is (IsNewLane (length c.in_ok-office.office)) c.in_ok-office.lanes.items c.pop.new.self.items c.in-Some.lane c.in-Some.ensures.items opened.others in
+    let all =
+    all_back c.still_together.ensures.in_order c.same_workers.ensures.itself c.in_ok-office.office c.in_ok-office.lanes.items (c.end-back.result.items ++ c.serve-lane.result ∷ []) c.in_ok-office.first c.take_through-taken.result.1
+    (all_gone_on c.in_ok-office.lanes.items c.pop.new.self.items c.end-back.result.items c.in-Some.lane c.serve-lane.result c.in-Some.ensures.items (all_same port _ _ gone) c.serve-lane.ensures.same)
+    c.take_through-taken.ensures.same opened.all in
     let over = subst (λ ks. IsOverWith (HoldsPassed K.holds K.HasFailed K.IsSettled) c.in_ok-office.office (ks ++ c.take_through-taken.result.1 ∷ []) c.end-in-Ok-begin_lanes.result.items) items c.end-in-Ok-begin_lanes.ensures.over in (
       record {
         office = c.in_ok-office.office;
@@ -128,17 +134,19 @@ returns-then-is_one_stuck-clause-stayed g c =
         last = c.take_through-taken.result.1;
         past = subst (AreTakenThrough c.args.given.zone (map vec_items c.args.given.texts.now) c.in_ok-office.first c.take_through-taken.result.1) c.in-Ok.is c.take_through-taken.ensures.taken;
         others = c.end-back.result.items;
-        control = c.serve-lane.result;
         asked = all_asked port (length c.in_ok-office.office) c.pop.new.self.items c.end-back.result.items
             (others_are (IsNewLane (length c.in_ok-office.office)) c.in_ok-office.lanes.items c.pop.new.self.items c.in-Some.lane c.in-Some.ensures.items opened.others) gone;
-        controlled = one_asked (c.args.given.zone, g.C.Place.asks) (length c.in_ok-office.office) c.in-Some.lane c.serve-lane.result
-            (last_is (IsNewLane (length c.in_ok-office.office)) c.in_ok-office.lanes.items c.pop.new.self.items c.in-Some.lane c.in-Some.ensures.items opened.others)
-            c.serve-lane.ensures.same c.serve-lane.ensures.asked;
-        all = all_back c.still_together.ensures.in_order c.same_workers.ensures.itself c.in_ok-office.office c.in_ok-office.lanes.items (c.end-back.result.items ++ c.serve-lane.result ∷ []) c.in_ok-office.first c.take_through-taken.result.1
-            (all_gone_on c.in_ok-office.lanes.items c.pop.new.self.items c.end-back.result.items c.in-Some.lane c.serve-lane.result c.in-Some.ensures.items (all_same port _ _ gone) c.serve-lane.ensures.same)
-            c.take_through-taken.ensures.same opened.all;
+        began_staff = c.in-Some.lane;
+        new_staff = new_staff;
+        staff = c.serve-lane.result;
+        asked_by_staff = one_asked (c.args.given.zone, role.All) (length c.in_ok-office.office) c.in-Some.lane c.serve-lane.result new_staff c.serve-lane.ensures.same
+            (staff_asked g.T.Till.Closes c.args.given.zone (c.in-Some.lane, _) (c.serve-lane.result, _) c.serve-lane.ensures.answered c.serve-lane.ensures.none_hidden);
+        answered = c.serve-lane.ensures.answered;
+        all = all;
         began = c.end-in-Ok-begin_lanes.ensures.began ∙ opened.began;
         over = over;
+        closes = staff_closes c.closes_are_one.ensures (terms_of K c.args.given).fares c.in_ok-office.office c.end-back.result.items c.serve-lane.result c.take_through-taken.result.1 g.T.Till.Closes c.args.given.zone (c.in-Some.lane, _) _
+            opened.new all.0 over.0 c.serve-lane.ensures.answered;
         kept = all_kept K.holds K.HasFailed K.IsSettled c.passed_are_kept.ensures _ over.1.workers c.end-in-Ok-begin_lanes.result.items over.1.passed;
       },
       ap is_one_stuck (sym c.deref.ensures.value) ∙ (sym c.is_one_stuck.ensures.value ∙ c.if-is_one_stuck.true),
@@ -154,6 +162,11 @@ returns-else-is_one_stuck-clause-stayed g c =
     let port : TimeZone × Role = (c.args.given.zone, g.P.Place.asks) in
     let gone = c.end-back.ensures.served port c.pop.new.self.items c.in-Ok-begin_lanes.ensures.begun in
     let items = c.push_reserved-in-Ok-begin_lanes.ensures.items in
+    let new_staff = last_is (IsNewLane (length c.in_ok-office.office)) c.in_ok-office.lanes.items c.pop.new.self.items c.in-Some.lane c.in-Some.ensures.items opened.others in
+    let all =
+    all_back c.still_together.ensures.in_order c.same_workers.ensures.itself c.in_ok-office.office c.in_ok-office.lanes.items (c.end-back.result.items ++ c.serve-lane.result ∷ []) c.in_ok-office.first c.take_through-taken.result.1
+    (all_gone_on c.in_ok-office.lanes.items c.pop.new.self.items c.end-back.result.items c.in-Some.lane c.serve-lane.result c.in-Some.ensures.items (all_same port _ _ gone) c.serve-lane.ensures.same)
+    c.take_through-taken.ensures.same opened.all in
     let over = subst (λ ks. IsOverWith (HoldsPassed K.holds K.HasFailed K.IsSettled) c.in_ok-office.office (ks ++ c.take_through-taken.result.1 ∷ []) c.end-in-Ok-begin_lanes.result.items) items c.end-in-Ok-begin_lanes.ensures.over in (
       record {
         office = c.in_ok-office.office;
@@ -163,17 +176,19 @@ returns-else-is_one_stuck-clause-stayed g c =
         last = c.take_through-taken.result.1;
         past = subst (AreTakenThrough c.args.given.zone (map vec_items c.args.given.texts.now) c.in_ok-office.first c.take_through-taken.result.1) c.in-Ok.is c.take_through-taken.ensures.taken;
         others = c.end-back.result.items;
-        control = c.serve-lane.result;
         asked = all_asked port (length c.in_ok-office.office) c.pop.new.self.items c.end-back.result.items
             (others_are (IsNewLane (length c.in_ok-office.office)) c.in_ok-office.lanes.items c.pop.new.self.items c.in-Some.lane c.in-Some.ensures.items opened.others) gone;
-        controlled = one_asked (c.args.given.zone, g.C.Place.asks) (length c.in_ok-office.office) c.in-Some.lane c.serve-lane.result
-            (last_is (IsNewLane (length c.in_ok-office.office)) c.in_ok-office.lanes.items c.pop.new.self.items c.in-Some.lane c.in-Some.ensures.items opened.others)
-            c.serve-lane.ensures.same c.serve-lane.ensures.asked;
-        all = all_back c.still_together.ensures.in_order c.same_workers.ensures.itself c.in_ok-office.office c.in_ok-office.lanes.items (c.end-back.result.items ++ c.serve-lane.result ∷ []) c.in_ok-office.first c.take_through-taken.result.1
-            (all_gone_on c.in_ok-office.lanes.items c.pop.new.self.items c.end-back.result.items c.in-Some.lane c.serve-lane.result c.in-Some.ensures.items (all_same port _ _ gone) c.serve-lane.ensures.same)
-            c.take_through-taken.ensures.same opened.all;
+        began_staff = c.in-Some.lane;
+        new_staff = new_staff;
+        staff = c.serve-lane.result;
+        asked_by_staff = one_asked (c.args.given.zone, role.All) (length c.in_ok-office.office) c.in-Some.lane c.serve-lane.result new_staff c.serve-lane.ensures.same
+            (staff_asked g.T.Till.Closes c.args.given.zone (c.in-Some.lane, _) (c.serve-lane.result, _) c.serve-lane.ensures.answered c.serve-lane.ensures.none_hidden);
+        answered = c.serve-lane.ensures.answered;
+        all = all;
         began = c.end-in-Ok-begin_lanes.ensures.began ∙ opened.began;
         over = over;
+        closes = staff_closes c.closes_are_one.ensures (terms_of K c.args.given).fares c.in_ok-office.office c.end-back.result.items c.serve-lane.result c.take_through-taken.result.1 g.T.Till.Closes c.args.given.zone (c.in-Some.lane, _) _
+            opened.new all.0 over.0 c.serve-lane.ensures.answered;
         kept = all_kept K.holds K.HasFailed K.IsSettled c.passed_are_kept.ensures _ over.1.workers c.end-in-Ok-begin_lanes.result.items over.1.passed;
       },
       ap is_one_stuck (sym c.deref.ensures.value) ∙ (sym c.is_one_stuck.ensures.value ∙ c.if-is_one_stuck.false),
