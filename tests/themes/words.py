@@ -71,8 +71,9 @@ FARES ZONE --port P --lanes L --shards N --control C --journal FOLDER --ledger F
 Further options: --journal FILE and --ledger FILE of run, and --sync with --journal; --lint and
 --against OLD of check, where OLD is another fare file, and --after DAY with --against; --journal
 FILE of statement, where it is only read; --journal FOLDER and --ledger FILE of serve; --ahead S of
-serve with --control, to refuse taps more than S seconds ahead of this machine's clock; --early of
-run and of serve, to close a day that is not over yet; --ledger FILE of audit.
+serve with --control, to refuse taps more than S seconds ahead of this machine's clock, and --refused
+FILE, to which refused lines are added; --early of run and of serve, to close a day that is not over
+yet; --ledger FILE of audit.
 """ + RUN_EXAMPLE + STATUSES + RUN_FORMATS
 RUN_HELP = b"""\
 Read taps, corrections and closes from standard input, and reply to each
@@ -206,6 +207,8 @@ Options:
                           P. It needs --journal and --ledger, and takes no --sessions and no --close
       --ahead <S>         For a service that stays: refuse taps that are more than S seconds ahead
                           of this machine's clock, by 1. From 0 to 86400
+      --refused <FILE>    For a service that stays: a file to which lines that are refused by 1, 15,
+                          20 to 23, 50 or 51 are added, so that they can be sent again
       --journal <FOLDER>  A folder of the lines that were accepted, a file for each shard. They are
                           taken first, and each line that is accepted is added before its reply. The
                           files are made if they are missing, the folder is not
@@ -596,6 +599,9 @@ REFUSED_FILES = (
         ["--ahead"], ["--ahead="], ["--ahead", "-1"], ["--ahead=86401"], ["--ahead=60", "--ahead", "60"],
         ["--ahead=60", "--sessions=1", "--close=19730"],
     )),
+    *([*TO_STAY, *more] for more in (["--refused"], ["--refused", "-a"], ["--refused=a", "--refused", "a"])),
+    [*TO_SERVE, "--refused=a"], [*TO_SERVE, "--journal", "a", "--ledger", "b", "--refused", "c"],
+    [*TO_RUN, "--refused=a"],
     [*TO_STAY[:9], *TO_STAY[11:], "--ahead=60"], [*TO_SERVE, "--ahead=60"],
     [*TO_SERVE, "--journal", "a", "--ledger", "b", "--ahead", "0"], [*TO_RUN, "--ahead=60"],
     [*TO_SERVE, "--sync"], [*TO_SERVE, "--journal", "a", "--sync"], [*TO_SERVE, "--journal"], [*TO_SERVE, "--ledger"],
@@ -617,6 +623,7 @@ TAKEN_FILES = (
     *([*TO_STAY, *more] for more in (
         ["--ahead", "60"], ["--ahead=0"], ["--early", "--ahead", "86400"], ["--ahead=+086400"],
     )),
+    *([*TO_STAY, *more] for more in (["--refused", "a"], ["--refused=-a"], ["--ahead=0", "--refused="])),
     ["serve", "--ahead", "60", *TO_STAY[1:]],
     ["serve", "--control=1", "--ledger=b", MISSING, "--journal=a", "--early", LONDON, *FULL_STAY],
     ["serve", "--ledger=b", *OPTIONS[:4], MISSING, "--journal", "a", *OPTIONS[4:], LONDON],

@@ -206,9 +206,10 @@ serve_texts m f s same gives =
       one_text-rows f (codes "close") ∙ (ap (one_of (codes "close")) rows_are ∙ h.6),
       one_text-rows f (codes "control") ∙ (ap (one_of (codes "control")) rows_are ∙ h.7),
       one_text-rows f (codes "ahead") ∙ (ap (one_of (codes "ahead")) rows_are ∙ h.8),
-      first_value-rows f (codes "journal") ∙ (ap (first_of (codes "journal")) rows_are ∙ h.9),
-      first_value-rows f (codes "ledger") ∙ (ap (first_of (codes "ledger")) rows_are ∙ h.10),
-      one_text-rows f (codes "early") ∙ (ap (one_of (codes "early")) rows_are ∙ h.11),
+      first_value-rows f (codes "refused") ∙ (ap (first_of (codes "refused")) rows_are ∙ h.9),
+      first_value-rows f (codes "journal") ∙ (ap (first_of (codes "journal")) rows_are ∙ h.10),
+      first_value-rows f (codes "ledger") ∙ (ap (first_of (codes "ledger")) rows_are ∙ h.11),
+      one_text-rows f (codes "early") ∙ (ap (one_of (codes "early")) rows_are ∙ h.12),
     )
 
 -- the matches of `audit` have what it is asked for

@@ -20,7 +20,7 @@ pub use Rattle.pay_words.specs.OneWord.{Text, Word, value, dashes, call_for_help
 pub use Rattle.pay_words.specs.OneWord.{Reader, any_text, is_account, is_day, number_of}
 pub use Rattle.pay_words.specs.Options.{HasNoHyphen}
 use Rattle.pay_words.specs.Options.{Part, Said, StandApart, all_of, all_said, help_wanted, not_taken, plain, apart, joined, plain_words, values_of, words_of_parts}
-use Rattle.pay_words.specs.Options.{port_option, lanes_option, shards_option, sessions_option, close_option, control_option, ahead_option, journal_option, sync_option, ledger_option, early_option}
+use Rattle.pay_words.specs.Options.{port_option, lanes_option, shards_option, sessions_option, close_option, control_option, ahead_option, refused_option, journal_option, sync_option, ledger_option, early_option}
 use Rattle.pay_words.specs.Options.{lint_option, against_option, after_option}
 use Rattle.pay_words.specs.Audit.{AreAuditParts, Audit, audit_grammar}
 use Rattle.pay_words.specs.Check.{AreCheckParts, Check, CheckTexts, HasAfterInRange, check_grammar, check_of_texts, has_against}
@@ -141,8 +141,8 @@ replay_asked help = help_asked
 replay_asked _ = usage
 
 -- two values, one value for each option that is needed, and what each other was given
-abbrev pub serve_of : List Text → List Text → List Text → List Text → List Text → List Text → List Text → List Text → List Text → List Text → List Text → Asked
-serve_of (fares ∷ zone ∷ []) (p ∷ []) (l ∷ []) (n ∷ []) k d c a j g e = serve (numbers_of (record {
+abbrev pub serve_of : List Text → List Text → List Text → List Text → List Text → List Text → List Text → List Text → List Text → List Text → List Text → List Text → Asked
+serve_of (fares ∷ zone ∷ []) (p ∷ []) (l ∷ []) (n ∷ []) k d c a u j g e = serve (numbers_of (record {
   fares = fares;
   zone = zone;
   port = p;
@@ -152,17 +152,19 @@ serve_of (fares ∷ zone ∷ []) (p ∷ []) (l ∷ []) (n ∷ []) k d c a j g e 
   close = first_given d;
   control = first_given c;
   ahead = first_given a;
+  refused = first_given u;
   journal = first_given j;
   ledger = first_given g;
   early = is_given e;
 }))
-serve_of _ _ _ _ _ _ _ _ _ _ _ = usage
+serve_of _ _ _ _ _ _ _ _ _ _ _ _ = usage
 
 -- `serve FARES ZONE` and its options
 abbrev pub serve_asked : Said → Asked
 serve_asked (all_of parts) = serve_of (plain_words parts) (values_of port_option parts) (values_of lanes_option parts)
     (values_of shards_option parts) (values_of sessions_option parts) (values_of close_option parts) (values_of control_option parts)
-    (values_of ahead_option parts) (values_of journal_option parts) (values_of ledger_option parts) (values_of early_option parts)
+    (values_of ahead_option parts) (values_of refused_option parts) (values_of journal_option parts) (values_of ledger_option parts)
+    (values_of early_option parts)
 serve_asked help_wanted = help_asked
 serve_asked not_taken = usage
 
@@ -268,6 +270,7 @@ served_job w = record {
   close = Some w.close;
   control = None;
   ahead = None;
+  refused = None;
   journal = option_map (λ s. s.now) w.journal;
   ledger = option_map (λ s. s.now) w.ledger;
   early = w.early;
@@ -284,6 +287,7 @@ staying_job w = record {
   close = None;
   control = Some w.control;
   ahead = w.ahead;
+  refused = option_map (λ s. s.now) w.refused;
   journal = Some w.journal.now;
   ledger = Some w.ledger.now;
   early = w.early;
@@ -301,6 +305,7 @@ service_values w = record {
   close = w.close;
   control = w.control;
   ahead = w.ahead;
+  refused = option_map (λ s. s.now) w.refused;
   journal = option_map (λ s. s.now) w.journal;
   ledger = option_map (λ s. s.now) w.ledger;
   early = w.early;
@@ -717,6 +722,7 @@ example = record {
   close = Some 19_730;
   control = None;
   ahead = None;
+  refused = None;
   journal = None;
   ledger = None;
   early = false;
@@ -927,6 +933,28 @@ ahead_of_an_end_with_files_row = refl
 ahead_of_neither_row : row (serve_words (codes "--ahead=60" ∷ files_words)) ≡ usage
 unfolding chars
 ahead_of_neither_row = refl
+
+-- refused lines are kept in a file, where one is named, once
+stay_refused_row : row (serve_words (codes "--control=9100" ∷ codes "--refused=no" ∷ files_words)) ≡ serve (record staying_example { refused = Some (codes "no") })
+unfolding chars
+stay_refused_row = refl
+
+stay_refused_apart_row : row (serve_words (codes "--refused" ∷ codes "no" ∷ codes "--control=9100" ∷ files_words)) ≡ serve (record staying_example { refused = Some (codes "no") })
+unfolding chars
+stay_refused_apart_row = refl
+
+stay_refused_twice_row : row (serve_words (codes "--control=9100" ∷ codes "--refused=no" ∷ codes "--refused=no" ∷ files_words)) ≡ usage
+unfolding chars
+stay_refused_twice_row = refl
+
+-- a service that ends keeps none
+refused_of_an_end_row : row (serve_words (codes "--sessions=1" ∷ codes "--close=19730" ∷ codes "--refused=no" ∷ [])) ≡ usage
+unfolding chars
+refused_of_an_end_row = refl
+
+refused_of_run_row : row (codes "run" ∷ codes "a" ∷ codes "b" ∷ codes "--refused=no" ∷ []) ≡ usage
+unfolding chars
+refused_of_run_row = refl
 
 -- no other program has one
 ahead_of_run_row : row (codes "run" ∷ codes "a" ∷ codes "b" ∷ codes "--ahead=60" ∷ []) ≡ usage

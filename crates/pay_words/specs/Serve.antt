@@ -1,9 +1,9 @@
 -- What the words of `serve` say.
-use Rattle.std.specs.Prelude.{◌≡◌, ◌+◌, ◌-◌, ◌==◌, ◌&&◌, ℕ, List, [], ◌∷◌, Bool, true, not, Option, Some, None, IfSome, is_some, option_map, nat_le}
+use Rattle.std.specs.Prelude.{◌≡◌, ◌+◌, ◌-◌, ◌==◌, ◌&&◌, ◌||◌, ℕ, List, [], ◌∷◌, Bool, true, not, Option, Some, None, IfSome, is_some, option_map, nat_le}
 use Rattle.pay_words.specs.declared.limits.TheConstants.{MOST_PORT, MOST_STAYING_LANES}
 use Rattle.pay_words.specs.OneWord.{Text, is_ahead, is_day, is_lanes, is_port, is_sessions, is_shards, number_of}
 use Rattle.pay_words.specs.Options.{AreParts, Grammar, Part, plain_words, values_of, fares_place, zone_place}
-use Rattle.pay_words.specs.Options.{port_option, lanes_option, shards_option, sessions_option, close_option, control_option, ahead_option, journal_option, ledger_option, early_option}
+use Rattle.pay_words.specs.Options.{port_option, lanes_option, shards_option, sessions_option, close_option, control_option, ahead_option, refused_option, journal_option, ledger_option, early_option}
 use Rattle.pay_words.specs.Run.{flags, listed}
 
 -- what `serve` is asked for: a service that ends after so many connections, or one that stays
@@ -17,6 +17,7 @@ pub record Serve : Type 0 where
   pub close : Option ℕ
   pub control : Option ℕ
   pub ahead : Option ℕ
+  pub refused : Option Text
   pub journal : Option Text
   pub ledger : Option Text
   pub early : Bool
@@ -32,6 +33,7 @@ pub record ServeTexts : Type 0 where
   pub close : Option Text
   pub control : Option Text
   pub ahead : Option Text
+  pub refused : Option Text
   pub journal : Option Text
   pub ledger : Option Text
   pub early : Bool
@@ -39,7 +41,7 @@ pub record ServeTexts : Type 0 where
 abbrev pub serve_grammar : Grammar
 serve_grammar = record {
   places = fares_place ∷ zone_place ∷ [];
-  options = port_option ∷ lanes_option ∷ shards_option ∷ sessions_option ∷ close_option ∷ control_option ∷ ahead_option ∷ journal_option ∷ ledger_option ∷ early_option ∷ [];
+  options = port_option ∷ lanes_option ∷ shards_option ∷ sessions_option ∷ close_option ∷ control_option ∷ ahead_option ∷ refused_option ∷ journal_option ∷ ledger_option ∷ early_option ∷ [];
 }
 
 abbrev pub numbers_of : ServeTexts → Serve
@@ -53,6 +55,7 @@ numbers_of t = record {
   close = option_map number_of t.close;
   control = option_map number_of t.control;
   ahead = option_map number_of t.ahead;
+  refused = t.refused;
   journal = t.journal;
   ledger = t.ledger;
   early = t.early;
@@ -73,6 +76,7 @@ HaveNeeded t parts = (values_of port_option parts ≡ t.port ∷ []) × (values_
 abbrev pub HaveEnd : ServeTexts → List Part → Type 0
 HaveEnd t parts = (values_of sessions_option parts ≡ listed t.sessions) × (values_of close_option parts ≡ listed t.close)
     × (values_of control_option parts ≡ listed t.control) × (values_of ahead_option parts ≡ listed t.ahead)
+    × (values_of refused_option parts ≡ listed t.refused)
 
 -- these parts are two values, in order, each option that both forms need once, and the others at most once
 abbrev pub ArePartsOf : ServeTexts → List Part → Type 0
@@ -87,10 +91,13 @@ last_port port lanes = port + lanes - 1
 abbrev pub has_ports : Serve → Bool
 has_ports s = nat_le (last_port s.port s.lanes) MOST_PORT
 
--- a service that ends serves so many connections, closes a day, has no limit for taps ahead of the clock, and has a port
--- for each lane
+-- what a service that stays alone may have: a limit for taps ahead of the clock, and a file for refused lines
+abbrev pub has_more : Serve → Bool
+has_more s = is_some s.ahead || is_some s.refused
+
+-- a service that ends serves so many connections, closes a day, has nothing of that, and has a port for each lane
 abbrev pub may_end : Serve → Bool
-may_end s = is_some s.sessions && (is_some s.close && (not (is_some s.ahead) && has_ports s))
+may_end s = is_some s.sessions && (is_some s.close && (not (has_more s) && has_ports s))
 
 -- it has no number of connections, and no day that is closed at its end
 abbrev pub has_no_end : Serve → Bool

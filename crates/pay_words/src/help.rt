@@ -137,6 +137,11 @@ pub const AHEAD: &str = "\
 For a service that stays: refuse taps that are more than S seconds ahead
 of this machine's clock, by 1. From 0 to 86400";
 
+/// What the option `--refused` is.
+pub const REFUSED: &str = "\
+For a service that stays: a file to which lines that are refused by 1, 15,
+20 to 23, 50 or 51 are added, so that they can be sent again";
+
 /// What stands below the program's own help.
 pub const BELOW_PROGRAM: &str = "\
 Words of run (FARES ZONE), of check (FARES), of statement (FARES ZONE ACCOUNT DAY), of replay
@@ -159,8 +164,9 @@ FARES ZONE --port P --lanes L --shards N --control C --journal FOLDER --ledger F
 Further options: --journal FILE and --ledger FILE of run, and --sync with --journal; --lint and
 --against OLD of check, where OLD is another fare file, and --after DAY with --against; --journal
 FILE of statement, where it is only read; --journal FOLDER and --ledger FILE of serve; --ahead S of
-serve with --control, to refuse taps more than S seconds ahead of this machine's clock; --early of
-run and of serve, to close a day that is not over yet; --ledger FILE of audit.
+serve with --control, to refuse taps more than S seconds ahead of this machine's clock, and --refused
+FILE, to which refused lines are added; --early of run and of serve, to close a day that is not over
+yet; --ledger FILE of audit.
 
 Example: account 7 boards a bus in London on Monday 8 January 2024 at 07:00. The reply names the
 day, counted from 1970-01-01, its price and that of its week, in pence.

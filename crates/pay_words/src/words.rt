@@ -20,7 +20,7 @@ ghost use Rattle.pay_words.specs.OneWord.{is_port};
 ghost use Rattle.pay_words.specs.Audit.{Audit};
 ghost use Rattle.pay_words.specs.Check.{Check, CheckTexts, HasAfterInRange, check_of_texts, has_against};
 ghost use Rattle.pay_words.specs.Run.{Run, has_journal};
-ghost use Rattle.pay_words.specs.Serve.{AreInRange, Serve, ServeTexts, has_no_end, has_ports, leaves_room, numbers_of};
+ghost use Rattle.pay_words.specs.Serve.{AreInRange, Serve, ServeTexts, has_more, has_no_end, has_ports, leaves_room, numbers_of};
 ghost use Rattle.pay_words.specs.Statement.{HasNumbersInRange, Statement, StatementTexts, statement_of_texts};
 ghost use Rattle.pay_words.specs.Asked.{check as check_asked, run as run_asked, without_dashes};
 ghost use Rattle.pay_words.specs.Asked.{audit as audit_asked, rebuild as rebuild_asked};
@@ -152,7 +152,7 @@ pub struct ServeWords<'a> {
 }
 
 /// The values of `serve FARES ZONE --port P --lanes L --shards N --control C --journal FOLDER --ledger FILE
-/// [--ahead S] [--early]`.
+/// [--ahead S] [--refused FILE] [--early]`.
 #[derive(Clone, Copy)]
 pub struct StayWords<'a> {
     /// The path of the fare file.
@@ -169,6 +169,8 @@ pub struct StayWords<'a> {
     pub control: u16,
     /// How many seconds a tap may be ahead of this machine's clock. Without it, any.
     pub ahead: Option<u32>,
+    /// The path of the file that refused lines are kept in.
+    pub refused: Option<&'a str>,
     /// The path of the folder of the shards' journals.
     pub journal: &'a str,
     /// The path of the SQLite file that days are closed into.
@@ -189,6 +191,7 @@ struct Service<'a> {
     close: Option<u32>,
     control: Option<u16>,
     ahead: Option<u32>,
+    refused: Option<&'a str>,
     journal: Option<&'a str>,
     ledger: Option<&'a str>,
     early: bool,
@@ -250,7 +253,8 @@ impl From<AllocError> for WordsFault {
 /// `--` says that each word after it is a value. Numbers are decimal digits, which may have a plus and zeros
 /// before them; one outside its range is refused as `Usage`, and so are lanes with a port above 65,535. With
 /// `--control` a service stays. It then has no `--sessions` and no `--close`, at most 14 lanes, a journal and
-/// a ledger, and another port for its staff; without it, it has both `--sessions` and `--close`, and no `--ahead`.
+/// a ledger, and another port for its staff; without it, it has both `--sessions` and `--close`, and neither
+/// `--ahead` nor `--refused`.
 pub fn read_words<'a>(alloc: Global, words: &'a [&'a str]) -> Result<Job<'a>, WordsFault>
     ensures job { IfOk result (λ job. asked (texts words.entry.now) ≡ job_asked job) }
     ensures refused { IfErr result (IsFaultOf (asked (texts words.entry.now))) }
@@ -501,11 +505,12 @@ fn with_end<'a>(alloc: Global, command: Command<'a>) -> Result<Command<'a>, Allo
         optional_number(alloc, "sessions", "K", help::SESSIONS, 1, MOST_SESSIONS),
         optional_number(alloc, "close", "DAY", help::CLOSE, FIRST_DAY, LAST_DAY),
     )?;
-    with_two(
+    let stays = with_two(
         ended,
         optional_number(alloc, "control", "C", help::CONTROL, 1, MOST_PORT),
         optional_number(alloc, "ahead", "S", help::AHEAD, 0, MOST_AHEAD),
-    )
+    )?;
+    stays.arg(text_option(alloc, "refused", "FILE", help::REFUSED))
 }
 
 /// A word that has to be there.
@@ -776,13 +781,14 @@ fn service_job(words: Service<'_>) -> Result<Job<'_>, WordsFault>
     }
 }
 
-/// The job of a service that ends, where it has a number of connections and a day, and no limit by the clock.
+/// The job of a service that ends, where it has a number of connections and a day, and nothing that is for a service
+/// that stays.
 fn ending_job(words: Service<'_>) -> Result<Job<'_>, WordsFault>
     requires { words.control ≡ None }
     ensures { IsAnswer (allowed (serve_asked (service_values words.entry))) result }
 {
     match (words.sessions, words.close) {
-        (Some(sessions), Some(close)) if words.ahead.is_none() => job_with_ports(ServeWords {
+        (Some(sessions), Some(close)) if !has_more(&words) => job_with_ports(ServeWords {
             fares: words.fares,
             zone: words.zone,
             port: words.port,
@@ -814,6 +820,7 @@ fn staying_job(words: Service<'_>, control: u16) -> Result<Job<'_>, WordsFault>
                 shards: words.shards,
                 control,
                 ahead: words.ahead,
+                refused: words.refused,
                 journal,
                 ledger,
                 early: words.early,
@@ -821,6 +828,13 @@ fn staying_job(words: Service<'_>, control: u16) -> Result<Job<'_>, WordsFault>
         }
         _ => Err(WordsFault::Usage),
     }
+}
+
+/// Whether there is something that a service that stays alone may have.
+fn has_more(words: &Service<'_>) -> bool
+    ensures { result ≡ has_more (service_values words.now) }
+{
+    words.ahead.is_some() || words.refused.is_some()
 }
 
 /// Whether there is no number of connections, and no day that is closed at the end.
@@ -869,6 +883,7 @@ fn serve_words<'a>(serve: &ArgMatches<'a>) -> Option<Service<'a>>
         close: number_of(serve, "close"),
         control: port_of(serve, "control"),
         ahead: number_of(serve, "ahead"),
+        refused: serve.get_str("refused"),
         journal: serve.get_str("journal"),
         ledger: serve.get_str("ledger"),
         early: is_flagged(serve, "early"),
