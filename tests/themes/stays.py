@@ -318,6 +318,107 @@ class Stays(Theme):
             kept = sum(bytes_of(path_of(journals, number)).count(b"\n") for number in range(16))
             self.check(f"how many lines are kept, {more}", answers(str(kept).encode()), answers(b"2" if more else b"4"))
 
+    def check_refused(self, name, path, wanted, since):
+        """What a file of refused lines has, but for their instants, which lie between the start and now."""
+        lines = [line.split(b" ", 2) for line in bytes_of(path).splitlines(keepends=True)]
+        self.check(name, answers(b"".join(b"%s %s" % (line[0], line[-1]) for line in lines)), answers(wanted.encode()))
+        self.check_is(f"whether {name} came now", all(since <= int(line[1]) <= time.time() for line in lines))
+
+    def test_refused_lines(self):
+        """With --refused FILE what is refused is kept before its reply, whoever sent it, and what was kept stays."""
+        journals, ledger = self.files()
+        path = os.path.join(self.folder, "refused")
+        since, wanted = int(time.time()), ""
+        others = f"TAP 1 1 7 {SEVEN + 1} 50 BUS\n"
+        with staying(journals, ledger, more=("--refused", path)) as service:
+            with connected(service.port) as reader, connected(service.control) as staff:
+                for peer, line, reply, kept in (
+                    (reader, boarding(7), BOARDED, ""),
+                    (reader, others, "NO 20 Conflict\n", "20 " + others),
+                    (staff, f"TAP 1 2 7 {SEVEN} 99 BUS\n", "NO 15 UnknownPlace\n", f"15 TAP 1 2 7 {SEVEN} 99 BUS\n"),
+                    (reader, "TAP 1 3 7 604799 50 BUS\n", "NO 1 OutOfTime\n", "1 TAP 1 3 7 604799 50 BUS\n"),
+                    (staff, CREDIT, BOARDED, ""), (staff, CREDIT, BOARDED.replace("OK", "AGAIN"), ""),
+                    (staff, CREDIT.replace("25", "26"), "NO 22 FixConflict\n", "22 " + CREDIT.replace("25", "26")),
+                    # What comes to nothing that is lost: it belongs elsewhere, or it is a question.
+                    (reader, CREDIT, NOT_HERE, ""), (reader, "CLOSE 19730\n", NOT_HERE, ""),
+                    (reader, "DUE 7 19730\n", f"DUE 7 {MONDAY} {MONDAY} 2 150 4=150\n", ""),
+                    (reader, "STOP\n", "NO 50 BadLine\n", "50 STOP\n"),
+                    # A carriage return, a backslash, a tilde, and what is beyond it; and a line without bytes.
+                    (reader, "QUIT\r\n", "NO 50 BadLine\n", "50 QUIT\\x0d\n"),
+                    (staff, "a\\b ~\x7f\x00\t\n", "NO 50 BadLine\n", "50 a\\\\b ~\\x7f\\x00\\x09\n"),
+                    (reader, "\n", "NO 50 BadLine\n", "50 \n"),
+                    # The longest line, and longer ones.
+                    (reader, "x" * 128 + "\n", "NO 50 BadLine\n", f"50 {'x' * 128}\n"),
+                    (reader, "x" * 129 + "\n", "NO 51 LongLine\n", f"51 {'x' * 129}\n"),
+                    (reader, "y" * 9000 + "\n", "NO 51 LongLine\n", f"51 {'y' * 129}\n"),
+                    (reader, boarding(8), BOARDED, ""),
+                ):
+                    came = asked(peer, line, reply)
+                    self.check(f"the reply to {line[:40]!r}", came, answers(reply.encode()))
+                    wanted += kept
+                    self.check_refused(f"what is kept once {line[:40]!r} is answered", path, wanted, since)
+                # In pieces; and several lines in one, around others.
+                for byte in others.encode():
+                    reader.sendall(bytes([byte]))
+                    time.sleep(0.0005)
+                self.check("in pieces", answers(heard(reader, 15)), answers(b"NO 20 Conflict\n"))
+                lines = "fly\n" + others + boarding(9) + others.replace("TAP 1 1", "TAP 01 1") + "fly high"
+                reader.sendall(lines.encode())
+                reader.shutdown(socket.SHUT_WR)
+                replies = f"NO 50 BadLine\nNO 20 Conflict\n{BOARDED}NO 50 BadLine\nNO 50 BadLine\n"
+                self.check("several lines, and a rest", answers(rest_of(reader)), answers(replies.encode()))
+                wanted += f"20 {others}50 fly\n20 {others}50 {others.replace('TAP 1 1', 'TAP 01 1')}50 fly high\n"
+                self.check_refused("what is kept of these", path, wanted, since)
+            self.check_stopped("how it ends", service)
+        self.check("who may read them", os.stat(path).st_mode & 0o777, 0o600)
+        # The next adds to them. A part of a line that a crash left is ended first.
+        with open(path, "ab") as it:
+            it.write(b"20 17046")
+        with staying(journals, ledger, lanes=3, more=(f"--refused={path}",)) as service:
+            readers = [boarding(account).replace("TAP 1 1", "TAP 9 9") * 30 for account in range(20, 26)]
+            readers = [(lines + lines.replace(str(SEVEN), str(SEVEN + 1))).encode() for lines in readers]
+            side_by_side([
+                lambda lines=lines: talk_ahead(service.port, lines.splitlines(keepends=True)) for lines in readers
+            ])
+            self.check_stopped("how the next ends", service)
+        came = bytes_of(path).splitlines(keepends=True)
+        first = wanted.count("\n")
+        self.check("a part of a line", came[first], b"20 17046\n")
+        kept = sorted(line.split(b" ", 2)[2] for line in came[first + 1:])
+        wanted = sorted(
+            line for lines in readers for line in lines.splitlines(keepends=True) if str(SEVEN + 1).encode() in line
+        )
+        self.check("what readers at the same time lost", kept, wanted)
+
+    def test_refused_lines_that_cannot_be_kept(self):
+        """A file that is another's is a fault, and stays as it is; one that takes no more loses no reply."""
+        journals, ledger = self.files()
+        with staying(journals, ledger) as service:
+            self.check_stopped_after(service, (boarding(7), BOARDED))
+        for name, path in (
+            ("a journal", path_of(journals, 1)), ("an empty journal", path_of(journals, 0)), ("the ledger", ledger),
+            ("what is kept beside them", os.path.join(journals, "all.fares")),
+            ("a new file there", os.path.join(journals, "refused")), ("a folder", journals), ("no file", "/dev/null"),
+            ("a folder that is missing", os.path.join(self.folder, "missing", "file")),
+        ):
+            before = bytes_of(path) if os.path.isfile(path) else b""
+            came = run(staying_words(9, 10, journals, ledger, more=(f"--refused={path}",)))
+            self.check(f"{name} for refused lines", came, fault(f"cannot keep refused lines in {path}"))
+            self.check(f"what {name} has", bytes_of(path) if os.path.isfile(path) else b"", before)
+        path = written(self.folder, "refused", b"50 0 fly\n" * 20_000)
+        with staying(journals, ledger, more=("--refused", path), **limited_to(180_002)) as service:
+            with connected(service.port) as reader:
+                self.check_talk(
+                    "over a disk that is full", reader,
+                    (
+                        (boarding(8), BOARDED), ("fly\n", "NO 50 BadLine\n"), ("fly\n", "NO 50 BadLine\n"),
+                        (boarding(9), BOARDED),
+                    ),
+                )
+            wanted = service.wanted()
+            errors = wanted.errors + f"farebox: cannot keep refused lines in {path}\n".encode()
+            self.check("how it ends", service.stopped(), wanted._replace(errors=errors))
+
     def test_ports(self):
         """A port that is taken is a fault, before a line is answered; and both are free once a service has ended."""
         journals, ledger = self.files()

@@ -4,11 +4,11 @@ ghost use Rattle.pay_words.specs.declared.limits.TheConstants.{MOST_SHARDS};
 
 use crate::serve::{compare_beside, keep_once_taken, report_in};
 use pay_files::{
-    CloseWatch, JournalFiles, KeptFares, Ledgers, fares_text, noted_in, open_journals,
+    CloseWatch, JournalFiles, KeptFares, LaneFiles, Ledgers, fares_text, noted_in, open_journals,
     print_warnings, ready_ledger, settle_journals,
 };
 use pay_jobs::{Alter, FaresAndZone, Fault, Keeper, Ledger};
-use pay_serve_job::{Given, Plan, Staying, stay};
+use pay_serve_job::{Aside, Given, Plan, Staying, stay};
 use pay_words::StayWords;
 use std::fs::File;
 use std::io::Eprint;
@@ -38,7 +38,11 @@ where
     let fares = fares_text(&rt, words.fares)?;
     print_warnings(&rt, fares.as_str())?;
     let journals = open_journals(&rt, words.journal, words.shards)?;
-    match stay_beside(rt, words, fares.as_str(), journals) {
+    let aside = match LaneFiles::open(rt, words.journal, words.refused) {
+        Ok(aside) => aside,
+        Err(_) => return Ok(report_refused(&rt, words)),
+    };
+    match stay_beside(rt, words, fares.as_str(), journals, aside) {
         Ok(()) => Ok(ExitCode::SUCCESS),
         Err(Fault::JournalLineOf { journal, line, why }) => {
             report_in(&rt, words.journal, journal, line, why)
@@ -47,8 +51,17 @@ where
     }
 }
 
+/// Reports that the file of refused lines cannot be used.
+fn report_refused<R: Eprint>(rt: &R, words: &StayWords<'_>) -> ExitCode {
+    let path = words.refused.unwrap_or("");
+    let _ = eprintln!(rt; "farebox: cannot keep refused lines in {path}");
+    ExitCode::FAILURE
+}
+
 /// The plan that words ask for. No connection is its last, and no day is closed at its end.
 fn plan_of(words: &StayWords<'_>) -> Plan
+    ensures port { result.port ≡ words.now.port }
+    ensures lanes { result.lanes ≡ words.now.lanes }
     ensures shards { result.shards ≡ words.now.shards }
 {
     Plan {
@@ -60,13 +73,26 @@ fn plan_of(words: &StayWords<'_>) -> Plan
     }
 }
 
+/// How a service stays by these words, until it is told to stop.
+fn staying_of<'a>(words: &StayWords<'_>, stop: &'a Arc<AtomicBool>) -> Staying<'a>
+    ensures staff { result.staff ≡ words.now.control }
+    ensures ahead { result.ahead ≡ words.now.ahead }
+{
+    Staying {
+        staff: words.control,
+        ahead: words.ahead,
+        stop,
+    }
+}
+
 /// The same with the journals that are open, if the accounts come to the same by what is kept beside them. What was kept is on the disk
 /// when it ends.
-fn stay_beside<R, S: Alter + Drop>(
+fn stay_beside<R, S: Alter + Drop, A>(
     rt: R,
     words: &StayWords<'_>,
     fares: &str,
     journals: JournalFiles<R>,
+    aside: A,
 ) -> Result<(), Fault>
 where
     R: Net<Listener = TcpListener, Stream = TcpStream>
@@ -80,6 +106,7 @@ where
         + Copy
         + Send
         + 'static,
+    A: Aside + Send + 'static,
     requires keepers { length journals.keepers.items ≡ words.now.shards }
 {
     let JournalFiles {
@@ -104,17 +131,18 @@ where
         texts: texts.as_slice(),
         keepers,
     };
-    stay_in_file(rt, words, given, &failed, &kept)?;
+    stay_in_file(rt, words, given, &failed, &kept, aside)?;
     settle_journals(&rt, words.journal, words.shards)
 }
 
 /// The same over the ledger in its file, with what is noted beside the journals.
-fn stay_in_file<R, K, S: Alter + Drop>(
+fn stay_in_file<R, K, S: Alter + Drop, A>(
     rt: R,
     words: &StayWords<'_>,
     given: Given<'_, K>,
     failed: &Arc<AtomicBool>,
     kept: &KeptFares,
+    aside: A,
 ) -> Result<(), Fault>
 where
     R: Net<Listener = TcpListener, Stream = TcpStream>
@@ -129,6 +157,7 @@ where
         + Send
         + 'static,
     K: Keeper + Send + 'static,
+    A: Aside + Send + 'static,
     requires keepers { length given.keepers.items ≡ given.plan.shards }
 {
     let noted = noted_in(&rt, words.journal)?;
@@ -136,13 +165,13 @@ where
     ready_ledger(&rt, words.ledger)?;
     let watch = CloseWatch::begin(rt, words.zone, words.early, Some(noted))?;
     let mut ledger = rt.ledger(words.ledger)?;
-    let stayed = stay_watched(rt, words, given, failed, kept, &mut ledger, watch);
+    let stayed = stay_watched(rt, words, given, failed, kept, &mut ledger, watch, aside);
     rt.close(ledger);
     stayed
 }
 
 /// The same with the ledger, which has the posting that is noted.
-fn stay_watched<R, K, S: Alter>(
+fn stay_watched<R, K, S: Alter, A>(
     rt: R,
     words: &StayWords<'_>,
     given: Given<'_, K>,
@@ -150,6 +179,7 @@ fn stay_watched<R, K, S: Alter>(
     kept: &KeptFares,
     ledger: &mut Ledger<S>,
     mut watch: CloseWatch<R>,
+    aside: A,
 ) -> Result<(), Fault>
 where
     R: Net<Listener = TcpListener, Stream = TcpStream>
@@ -163,14 +193,11 @@ where
         + Send
         + 'static,
     K: Keeper + Send + 'static,
+    A: Aside + Send + 'static,
     requires keepers { length given.keepers.items ≡ given.plan.shards }
 {
     watch.take(ledger)?;
     keep_once_taken(&rt, &given, ledger, kept)?;
-    let staying = Staying {
-        staff: words.control,
-        ahead: words.ahead,
-        stop: failed,
-    };
-    stay(rt, rt.alloc(), given, staying, ledger, &mut watch)
+    let staying = staying_of(words, failed);
+    stay(rt, rt.alloc(), given, staying, ledger, &mut watch, aside)
 }

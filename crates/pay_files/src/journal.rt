@@ -216,7 +216,7 @@ pub(crate) fn refuse_ledger_at<R: Files + AllocGlobal>(
 }
 
 /// Where the file at a path lies, or would lie: its name after its folder, without links. As it is written, where that has no folder.
-fn place_of<R: Files + AllocGlobal>(rt: &R, path: &str) -> Result<String, AllocError> {
+pub(crate) fn place_of<R: Files + AllocGlobal>(rt: &R, path: &str) -> Result<String, AllocError> {
     let mut place = String::new(rt.alloc());
     match put_place(rt, path, &mut place) {
         Ok(()) => Ok(place),
@@ -351,7 +351,7 @@ fn are_zeros(bytes: &[u8]) -> bool
 }
 
 /// Opens the file at a path, or makes it. What is there is opened as it is: a system may refuse to make what another's file is.
-fn open_or_make<R: Files<File = File>>(rt: &R, path: &str) -> io::Result<File> {
+pub(crate) fn open_or_make<R: Files<File = File>>(rt: &R, path: &str) -> io::Result<File> {
     match open(rt, path, false) {
         Err(error) if error.kind() == ErrorKind::NotFound => open(rt, path, true),
         found => found,
@@ -368,7 +368,10 @@ fn open<R: Files<File = File>>(rt: &R, path: &str, makes: bool) -> io::Result<Fi
 }
 
 /// Has the name of a file on the disk to which a path leads that is a link.
-fn settle_target<R: Files<File = File> + AllocGlobal>(rt: &R, path: &str) -> io::Result<()> {
+pub(crate) fn settle_target<R: Files<File = File> + AllocGlobal>(
+    rt: &R,
+    path: &str,
+) -> io::Result<()> {
     if fs::symlink_metadata(rt, path)?.is_symlink() {
         let file = fs::canonicalize(rt, path)?;
         settle_folder_of(rt, file.as_str())?;
@@ -388,7 +391,7 @@ pub(crate) fn settle_folder_of<R: Files<File = File>>(rt: &R, path: &str) -> io:
 }
 
 /// The folder of the file at a path.
-fn folder_of(path: &str) -> &str {
+pub(crate) fn folder_of(path: &str) -> &str {
     match path.rsplit_once('/') {
         None => ".",
         Some(("", _)) => "/",

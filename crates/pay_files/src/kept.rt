@@ -230,7 +230,7 @@ impl<K: Keeper, R: Files<File = File> + Eprint + AllocGlobal + Copy> FaresFirst<
 }
 
 /// The same text once more.
-fn copy_of(alloc: Global, text: &str) -> Result<String, AllocError> {
+pub(crate) fn copy_of(alloc: Global, text: &str) -> Result<String, AllocError> {
     let mut copy = String::new(alloc);
     copy.push_str(text)?;
     Ok(copy)

@@ -1,4 +1,4 @@
--- A place may be sent to another thread, if its clock may.
+-- A place may be sent to another thread, if its clock may, and what it does beside its lines.
 use denote.RattleType.{RattleType}
 use denote.Param.Send.{IsSend, sendable, struct_send}
 use Rattle.std.proofs.Crossing.{crosses}
@@ -17,6 +17,7 @@ use Rattle.pay_peers.specs.contracts.shared.Shared as shared
 use Rattle.pay_peers.specs.contracts.tally.Seat as seat
 use Rattle.pay_peers.specs.contracts.tally.Tally as tallies
 use Rattle.pay_peers.proofs.tally.Tally.TheSendSync as tally
+use Rattle.pay_peers.proofs.refused.Refused.TheSendSync as refused
 use Rattle.pay_peers.proofs.word.Begun.TheSendSync as begun
 
 Tally-send : IsSend tallies.the_row
@@ -29,14 +30,14 @@ Shared-send : IsSend shared.the_row
 Shared-send = search (Tally-send, tally.the_sync, crosses, sendable) depth 20
 
 Peer-send : IsSend peer.the_row
-Peer-send = search (Seat-send, begun.the_send, conversation.the_send, stream.the_send, crosses, sendable) depth 20
+Peer-send = search (Seat-send, begun.the_send, refused.the_send, conversation.the_send, stream.the_send, crosses, sendable) depth 20
 
 Peers-send : IsSend peers.the_row
 Peers-send = search (Peer-send, crosses, sendable) depth 14
 
-module _ (C : RattleType) where
-  pub Serving-send : IsSend C → IsSend (serving.the_field C).row
-  Serving-send c = struct_send (denote.Struct.Declared.shape (serving.the_type C)) (
+module _ (C A : RattleType) where
+  pub Serving-send : IsSend C → IsSend A → IsSend (serving.the_field C A).row
+  Serving-send c a = struct_send (denote.Struct.Declared.shape (serving.the_type C A)) (
     search (crosses, sendable),
     (
       search (crosses, sendable) depth 14,
@@ -53,10 +54,16 @@ module _ (C : RattleType) where
                 (
                   c,
                   (
-                    search (instant.the_send, crosses, sendable) depth 8,
+                    a,
                     (
                       search (crosses, sendable),
-                      tt,
+                      (
+                        search (instant.the_send, crosses, sendable) depth 8,
+                        (
+                          search (crosses, sendable),
+                          tt,
+                        ),
+                      ),
                     ),
                   ),
                 ),
@@ -68,8 +75,8 @@ module _ (C : RattleType) where
     ),
   )
 
-  pub Ready-field : IsSend C → IsSend (ready.the_field C).row
-  Ready-field c = struct_send (denote.Struct.Declared.shape (ready.the_type C)) (Serving-send c, tt)
+  pub Ready-field : IsSend C → IsSend A → IsSend (ready.the_field C A).row
+  Ready-field c a = struct_send (denote.Struct.Declared.shape (ready.the_type C A)) (Serving-send c a, tt)
 
-  pub Ready-send : IsSend C → IsSend (ready.the_row C)
-  Ready-send c = search (Ready-field, sendable) depth 6
+  pub Ready-send : IsSend C → IsSend A → IsSend (ready.the_row C A)
+  Ready-send c a = search (Ready-field, sendable) depth 6

@@ -7,7 +7,7 @@ use Rattle.pay_session.specs.declared.port.Role.{Role}
 use Rattle.pay_session.specs.declared.port.Role.TheVariants.{Taps, All}
 use Rattle.pay_peers.specs.declared.word.Word.{Word}
 use Rattle.pay_peers.specs.Lines.{word_of, word_at, found, first_word, IsTaken}
-use Rattle.pay_peers.proofs.Kept.{kept_more}
+use Rattle.pay_peers.proofs.Kept.{front_alone, kept_more}
 
 -- what is kept of a line tells its word
 word_of_kept : (line : List ℕ) → word_of (take 6 line) ≡ word_of line
@@ -19,16 +19,16 @@ word_of_kept (a ∷ b ∷ c ∷ d ∷ []) = refl
 word_of_kept (a ∷ b ∷ c ∷ d ∷ e ∷ []) = refl
 word_of_kept (a ∷ b ∷ c ∷ d ∷ e ∷ f ∷ rest) = refl
 
-pub word_kept : (role : Role) (line : List ℕ) → word_at role (take 6 line) ≡ word_at role line
+pub word_kept : (role : Role) (line : List ℕ) → word_at role (take 129 line) ≡ word_at role line
 word_kept Taps line = refl
-word_kept All line = word_of_kept line
+word_kept All line = sym (word_of_kept (take 129 line)) ∙ ap word_of (front_alone 6 129 line (omega arith)) ∙ word_of_kept line
 
-pub first_kept : (role : Role) (begun bytes : List ℕ) → first_word role (take 6 begun) bytes ≡ first_word role begun bytes
+pub first_kept : (role : Role) (begun bytes : List ℕ) → first_word role (take 129 begun) bytes ≡ first_word role begun bytes
 first_kept role begun [] = refl
 first_kept role begun (b ∷ bs) =
-    let longer : first_word role (take 6 begun ++ b ∷ []) bs ≡ first_word role (begun ++ b ∷ []) bs =
-    sym (first_kept role (take 6 begun ++ b ∷ []) bs) ∙ ap (λ line. first_word role line bs) (kept_more 6 begun (b ∷ [])) ∙ first_kept role (begun ++ b ∷ []) bs in
-    ap (λ word. if eqb b 10 then found word bs (first_word role [] bs) else first_word role (take 6 begun ++ b ∷ []) bs) (word_kept role begun)
+    let longer : first_word role (take 129 begun ++ b ∷ []) bs ≡ first_word role (begun ++ b ∷ []) bs =
+    sym (first_kept role (take 129 begun ++ b ∷ []) bs) ∙ ap (λ line. first_word role line bs) (kept_more 129 begun (b ∷ [])) ∙ first_kept role (begun ++ b ∷ []) bs in
+    ap (λ word. if eqb b 10 then found word bs (first_word role [] bs) else first_word role (take 129 begun ++ b ∷ []) bs) (word_kept role begun)
     ∙ ap (λ other. if eqb b 10 then found (word_at role begun) bs (first_word role [] bs) else other) longer
 
 -- bytes without a newline go on with the line
@@ -60,7 +60,7 @@ line_taken role begun bytes text behind cut none = record {
       ∙ ap (λ word. found word more (first_word role [] more)) is;
 }
 
-pub rest_taken : (role : Role) (begun bytes : List ℕ) → has_newline bytes ≡ false → IsTaken role begun bytes None (take 6 (begun ++ bytes)) []
+pub rest_taken : (role : Role) (begun bytes : List ℕ) → has_newline bytes ≡ false → IsTaken role begun bytes None (take 129 (begun ++ bytes)) []
 rest_taken role begun bytes none = record {
   front = bytes;
   cut = sym (append-nil bytes);
@@ -90,7 +90,7 @@ line_is_taken role begun bytes text behind kept word cut none is anew =
     let Q : List ℕ → Type 0 = λ k. IsTaken role begun bytes word k behind in
     subst Q (sym anew) (subst P (sym is) (line_taken role begun bytes text behind cut none))
 
-pub rest_is_taken : (role : Role) (begun bytes kept behind : List ℕ) → has_newline bytes ≡ false → kept ≡ take 6 (begun ++ bytes) → behind ≡ []
+pub rest_is_taken : (role : Role) (begun bytes kept behind : List ℕ) → has_newline bytes ≡ false → kept ≡ take 129 (begun ++ bytes) → behind ≡ []
     → IsTaken role begun bytes None kept behind
 rest_is_taken role begun bytes kept behind none is over =
     let P : List ℕ → Type 0 = λ k. IsTaken role begun bytes None k [] in

@@ -1,6 +1,6 @@
 -- What is kept of a line: its first bytes.
-use Rattle.std.proofs.Common.{◌≡◌, ℕ, ◌+◌, ◌<◌, ◌≤◌, zero, suc, List, [], ◌∷◌, ◌++◌, length, take, get_or, ap, sym, ◌∙◌, refl, arith, append_assoc}
-use Rattle.std.proofs.lemmas.List.{take_more}
+use Rattle.std.proofs.Common.{◌≡◌, ℕ, ◌+◌, ◌<◌, ◌≤◌, zero, suc, List, [], ◌∷◌, ◌++◌, length, take, take_all, get_or, set, length-append, ap, sym, ◌∙◌, refl, arith, append_assoc}
+use Rattle.std.proofs.lemmas.List.{length-take-le, take_more, take_more_set}
 
 -- more beside what is kept is kept as beside all
 pub kept_more : (n : ℕ) (xs ys : List ℕ) → take n (take n xs ++ ys) ≡ take n (xs ++ ys)
@@ -9,7 +9,7 @@ kept_more (suc n) [] ys = refl
 kept_more (suc n) (x ∷ xs) ys = ap (λ l. x ∷ l) (kept_more n xs ys)
 
 -- and so is a front of it
-front_alone : (n k : ℕ) (ys : List ℕ) → n ≤ k → take n (take k ys) ≡ take n ys
+pub front_alone : (n k : ℕ) (ys : List ℕ) → n ≤ k → take n (take k ys) ≡ take n ys
 front_alone zero k ys l = refl
 front_alone (suc n) zero ys l = absurd (omega (arith, l))
 front_alone (suc n) (suc k) [] l = refl
@@ -27,3 +27,24 @@ kept_next n i first items now is l =
     ap (λ before. take n (before ++ get_or items i 0 ∷ [])) is
     ∙ kept_more n (first ++ take i items) (get_or items i 0 ∷ [])
     ∙ ap (take n) (append_assoc first (take i items) (get_or items i 0 ∷ []) ∙ ap (λ l. first ++ l) (sym (take_more items i 0 l)))
+
+-- behind a front that is kept whole nothing more is kept
+kept_full : (n : ℕ) (line more : List ℕ) → n ≤ length line → take n (line ++ more) ≡ take n line
+kept_full zero line more l = refl
+kept_full (suc n) [] more l = absurd (omega (arith, l))
+kept_full (suc n) (x ∷ xs) more l = ap (λ rest. x ∷ rest) (kept_full n xs more (omega (arith, l)))
+
+-- a byte is put behind the line that some room has, where there is some left
+pub byte_added : (n count byte : ℕ) (room line : List ℕ) → take count room ≡ line → count < n → length room ≡ n
+    → take (count + 1) (set room count byte) ≡ take n (line ++ byte ∷ [])
+byte_added n count byte room line is left size =
+    let here : count < length room = omega (arith, left, size) in
+    let within : count ≤ length room = omega (arith, here) in
+    let short : length (take count room ++ byte ∷ []) ≤ n = omega (arith, length-append (take count room) (byte ∷ []), length-take-le count room within, left) in
+    take_more_set room count byte here ∙ sym (take_all n (take count room ++ byte ∷ []) short) ∙ ap (λ (l : List ℕ). take n (l ++ byte ∷ [])) is
+
+pub byte_left_out : (n count byte : ℕ) (room line : List ℕ) → take count room ≡ line → n ≤ count → length room ≡ n → line ≡ take n (line ++ byte ∷ [])
+byte_left_out n count byte room line is full size =
+    let whole : room ≡ line = sym (take_all count room (omega (arith, size, full))) ∙ is in
+    let long : length line ≡ n = sym (ap length whole) ∙ size in
+    sym (kept_full n line (byte ∷ []) (omega (arith, long)) ∙ take_all n line (omega (arith, long)))

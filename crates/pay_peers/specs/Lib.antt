@@ -1,3 +1,4 @@
 pub mod Fates
 pub mod Lines
+pub mod Refused
 pub mod Sending

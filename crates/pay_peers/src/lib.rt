@@ -5,17 +5,20 @@
 //! divides its time.
 #![tactic(auto)]
 
+mod aside;
 mod fate;
 pub mod limits;
 mod peer;
 mod peers;
 mod ready;
+mod refused;
 mod sending;
 mod serving;
 mod shared;
 mod tally;
 mod word;
 
+pub use aside::Aside;
 pub use ready::{Control, Ports, Ready};
 pub use shared::Shared;
 pub use tally::Tally;

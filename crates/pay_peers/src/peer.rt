@@ -1,13 +1,16 @@
 //! A connection that is held.
-ghost use Rattle.std.specs.Prelude.{◌≡◌, ◌≢◌, ◌<◌, ◌++◌, IsTrue, false, [], length, OnOk, IfOk, IfSome};
-ghost use Rattle.pay_session.specs.Words.{AreAskedAt, TakesPiece};
+ghost use Rattle.std.specs.Prelude.{◌≡◌, ◌≢◌, ◌<◌, ◌++◌, IsTrue, true, false, [], length, drop, OnOk, IfOk, IfSome};
+ghost use Rattle.pay_session.specs.Requests.{has_newline};
+ghost use Rattle.pay_session.specs.Words.{HasAnsweredAt, TakesPiece};
 ghost use Rattle.pay_session.specs.declared.port.Role.TheVariants as roles;
 ghost use Rattle.pay_peers.specs.Fates.{word_in};
 ghost use Rattle.pay_peers.specs.Lines.{IsTaken, AnswersFront};
+ghost use Rattle.pay_peers.specs.Refused.{NotesLine, noted};
 ghost use Rattle.pay_peers.specs.declared.word.Word.{Word};
 
 use crate::fate::{Fate, fate_of};
 use crate::limits::{LAST_READS, MOST_UNSENT, TURN_PIECES};
+use crate::refused::Refused;
 use crate::sending::{empty, send};
 use crate::tally::Seat;
 use crate::word::{Begun, Word};
@@ -26,8 +29,10 @@ pub struct Peer {
     stream: TcpStream,
     seat: Seat,
     conversation: Conversation,
-    // What the conversation was given of a line that has not ended, as far as it may be a word of staff.
+    // What the conversation was given of a line that has not ended, as far as a line may go.
     begun: Begun,
+    /// Its lines that were refused, and are to be kept before their replies leave.
+    pub refused: Refused,
     unsent: Vec<u8>,
     // How many bytes of these have left.
     sent: usize,
@@ -71,6 +76,7 @@ impl Peer {
             seat,
             conversation: Conversation::new(),
             begun: Begun::new(),
+            refused: Refused::new(alloc),
             unsent: Vec::new(alloc),
             sent: 0,
             known: false,
@@ -100,22 +106,31 @@ impl Peer {
         self.say(b"BYE\n")
     }
 
-    /// Counts the reply that stands behind so many bytes, if one does. Where the first line is no command, no more are taken, since the peer
-    /// speaks another protocol.
-    fn note_reply(&mut self, before: usize)
+    /// Counts the reply to the begun line that stands behind so many bytes, if one does, and notes the line if it is to be kept. Where the
+    /// first line is no command, no more are taken, since the peer speaks another protocol.
+    fn note_reply(&mut self, before: usize) -> Result<(), WriteFault>
         ensures begun { self.new.begun ≡ self.old.begun }
         ensures pending { self.new.pending.items ≡ self.old.pending.items }
         ensures conversation { self.new.conversation ≡ self.old.conversation }
         ensures unsent { self.new.unsent.items ≡ self.old.unsent.items }
         ensures over { self.new.over ≡ false → self.old.over ≡ false }
+        ensures instant { self.new.refused.instant ≡ self.old.refused.instant }
+        ensures noted { OnOk result (self.new.refused.lines.items
+            ≡ self.old.refused.lines.items ++ noted self.old.refused.instant (drop before self.old.unsent.items) self.old.begun) }
     {
-        let reply = match self.unsent.get(before..) {
-            Some(reply) if !reply.is_empty() => reply,
-            _ => return,
+        let line = self.begun.text();
+        let noted = match self.unsent.get(before..) {
+            Some(reply) => {
+                if !reply.is_empty() {
+                    self.seat.tally().count(reply);
+                    self.over |= !self.known && is_no_command(reply);
+                    self.known = true;
+                }
+                self.refused.note(reply, line)
+            }
+            None => self.refused.note(b"", line),
         };
-        self.seat.tally().count(reply);
-        self.over |= !self.known && is_no_command(reply);
-        self.known = true;
+        noted.map_err(|_| WriteFault::Failed(ErrorKind::OutOfMemory))
     }
 
     /// Has the conversation take a line, or a part of one, and answer it.
@@ -126,20 +141,22 @@ impl Peer {
         desk: &mut D,
         till: &mut T,
     ) -> Result<(), WriteFault>
-        ensures same_desk { (D.parts desk.new).standing ≡ (D.parts desk.old).standing }
-        ensures asked { AreAskedAt port.entry.zone.now port.entry.role (D.parts desk.old).taken (D.parts desk.new).taken }
+        ensures served { HasAnsweredAt D.parts T.Closes (port.entry.zone.now, port.entry.role) (desk.old, till.old) (desk.new, till.new) }
+        ensures same_till { T.origin till.new ≡ T.origin till.old }
         ensures begun { self.new.begun ≡ self.old.begun }
         ensures pending { self.new.pending.items ≡ self.old.pending.items }
         ensures answered { OnOk result (self.new.over ≡ false → TakesPiece D.parts T.Closes port.entry part.now
             (desk.old, till.old, self.old.conversation, Some self.old.unsent.items) (desk.new, till.new, self.new.conversation, Some self.new.unsent.items)) }
+        ensures instant { self.new.refused.instant ≡ self.old.refused.instant }
+        ensures noted { OnOk result (self.new.refused.lines.items ≡ self.old.refused.lines.items
+            ++ noted self.old.refused.instant (drop (length self.old.unsent.items) self.new.unsent.items) self.old.begun) }
     {
         let before = self.unsent.len();
         let left = self
             .conversation
             .take(part, &mut self.unsent, port, desk, till)?;
         self.over |= left.is_some();
-        self.note_reply(before);
-        Ok(())
+        self.note_reply(before)
     }
 
     /// Takes the first line of some bytes, and says whether it is a word of staff, and what stands behind it. Where no line ends in them it
@@ -151,8 +168,8 @@ impl Peer {
         desk: &mut D,
         till: &mut T,
     ) -> Result<(Option<Word>, &'v [u8]), WriteFault>
-        ensures same_desk { (D.parts desk.new).standing ≡ (D.parts desk.old).standing }
-        ensures asked { AreAskedAt port.entry.zone.now port.entry.role (D.parts desk.old).taken (D.parts desk.new).taken }
+        ensures served { HasAnsweredAt D.parts T.Closes (port.entry.zone.now, port.entry.role) (desk.old, till.old) (desk.new, till.new) }
+        ensures same_till { T.origin till.new ≡ T.origin till.old }
         ensures staff { IfOk result (λ taken. IfSome taken.0 (λ _. port.entry.role ≡ roles.All)) }
         ensures taken { IfOk result (λ taken. IsTaken port.entry.role self.old.begun bytes.now taken.0 self.new.begun taken.1.now) }
         ensures answered { IfOk result (λ taken. taken.0 ≡ None → self.new.over ≡ false → AnswersFront D.parts T.Closes port.entry bytes.now taken.1.now
@@ -161,8 +178,10 @@ impl Peer {
         ensures untouched { IfOk result (λ taken. IfSome taken.0 (λ _. (desk.new ≡ desk.old) × (till.new ≡ till.old) × (self.new.unsent.items ≡ self.old.unsent.items))) }
         ensures shorter { IfOk result (λ taken. 0 < length bytes.now → length taken.1.now < length bytes.now) }
         ensures pending { self.new.pending.items ≡ self.old.pending.items }
+        ensures noted { IfOk result (λ taken. taken.0 ≡ None → has_newline bytes.now ≡ true → NotesLine self.old.refused.instant self.old.begun bytes.now taken.1.now
+            (self.old.unsent.items, self.old.refused.lines.items) (self.new.unsent.items, self.new.refused.lines.items)) }
     {
-        pay_session::laws::piece_by_piece();
+        pay_session::laws::piece_by_piece::<D, T>();
         let Some((text, behind)) = cut(bytes) else {
             self.begun.extend(bytes);
             self.answer(bytes, port, desk, till)?;
@@ -173,9 +192,11 @@ impl Peer {
             self.known = true;
             // What it was given of this line is none of the session's.
             self.conversation = Conversation::new();
+            self.begun.clear();
             return Ok((word, behind));
         }
         self.answer(&bytes[..bytes.len() - behind.len()], port, desk, till)?;
+        self.begun.clear();
         Ok((None, behind))
     }
 
@@ -210,12 +231,12 @@ impl Peer {
         till: &mut T,
     ) -> Result<Option<Word>, WriteFault>
         requires { self.old.pending.items ≡ [] }
-        ensures same_desk { (D.parts desk.new).standing ≡ (D.parts desk.old).standing }
-        ensures asked { AreAskedAt port.entry.zone.now port.entry.role (D.parts desk.old).taken (D.parts desk.new).taken }
+        ensures served { HasAnsweredAt D.parts T.Closes (port.entry.zone.now, port.entry.role) (desk.old, till.old) (desk.new, till.new) }
+        ensures same_till { T.origin till.new ≡ T.origin till.old }
         ensures staff { IfOk result (λ word. IfSome word (λ _. port.entry.role ≡ roles.All)) }
         ensures taken { IfOk result (λ word. self.new.over ≡ false → IsTaken port.entry.role self.old.begun piece.now word self.new.begun self.new.pending.items) }
     {
-        pay_session::laws::piece_by_piece();
+        pay_session::laws::piece_by_piece::<D, T>();
         let mut rest = piece;
         'lines: while self.takes(rest) {
             let (word, behind) = self.take_line(rest, port, desk, till)?;
@@ -236,14 +257,13 @@ impl Peer {
         desk: &mut D,
         till: &mut T,
     ) -> Result<(), WriteFault>
-        ensures same_desk { (D.parts desk.new).standing ≡ (D.parts desk.old).standing }
-        ensures asked { AreAskedAt port.entry.zone.now port.entry.role (D.parts desk.old).taken (D.parts desk.new).taken }
+        ensures served { HasAnsweredAt D.parts T.Closes (port.entry.zone.now, port.entry.role) (desk.old, till.old) (desk.new, till.new) }
+        ensures same_till { T.origin till.new ≡ T.origin till.old }
     {
         self.over = true;
         let before = self.unsent.len();
         self.conversation.end(&mut self.unsent, port, desk, till)?;
-        self.note_reply(before);
-        Ok(())
+        self.note_reply(before)
     }
 
     /// Takes what was read: some lines, or, where it is nothing, that no more comes.
@@ -255,8 +275,8 @@ impl Peer {
         till: &mut T,
     ) -> Result<Option<Word>, WriteFault>
         requires { self.old.pending.items ≡ [] }
-        ensures same_desk { (D.parts desk.new).standing ≡ (D.parts desk.old).standing }
-        ensures asked { AreAskedAt port.entry.zone.now port.entry.role (D.parts desk.old).taken (D.parts desk.new).taken }
+        ensures served { HasAnsweredAt D.parts T.Closes (port.entry.zone.now, port.entry.role) (desk.old, till.old) (desk.new, till.new) }
+        ensures same_till { T.origin till.new ≡ T.origin till.old }
         ensures staff { IfOk result (λ word. IfSome word (λ _. port.entry.role ≡ roles.All)) }
     {
         if !piece.is_empty() {
@@ -275,11 +295,11 @@ impl Peer {
         till: &mut T,
     ) -> Fate
         requires { self.old.pending.items ≡ [] }
-        ensures same_desk { (D.parts desk.new).standing ≡ (D.parts desk.old).standing }
-        ensures asked { AreAskedAt port.entry.zone.now port.entry.role (D.parts desk.old).taken (D.parts desk.new).taken }
+        ensures served { HasAnsweredAt D.parts T.Closes (port.entry.zone.now, port.entry.role) (desk.old, till.old) (desk.new, till.new) }
+        ensures same_till { T.origin till.new ≡ T.origin till.old }
         ensures staff { (word : Word) → result ≡ Fate.Asks word → port.entry.role ≡ roles.All }
     {
-        pay_session::laws::piece_by_piece();
+        pay_session::laws::piece_by_piece::<D, T>();
         let count = match (&self.stream).read(buffer) {
             Ok(count) => count,
             Err(error) => return fate_of(&error),
@@ -295,13 +315,13 @@ impl Peer {
         desk: &mut D,
         till: &mut T,
     ) -> Fate
-        ensures same_desk { (D.parts desk.new).standing ≡ (D.parts desk.old).standing }
-        ensures asked { AreAskedAt port.entry.zone.now port.entry.role (D.parts desk.old).taken (D.parts desk.new).taken }
+        ensures served { HasAnsweredAt D.parts T.Closes (port.entry.zone.now, port.entry.role) (desk.old, till.old) (desk.new, till.new) }
+        ensures same_till { T.origin till.new ≡ T.origin till.old }
         ensures staff { (word : Word) → result ≡ Fate.Asks word → port.entry.role ≡ roles.All }
         ensures taken { result ≢ Fate.Ends → self.new.over ≡ false
             → IsTaken port.entry.role self.old.begun self.old.pending.items (word_in result) self.new.begun self.new.pending.items }
     {
-        pay_session::laws::piece_by_piece();
+        pay_session::laws::piece_by_piece::<D, T>();
         let count = self.pending.len();
         let Some(room) = buffer.get_mut(..count) else {
             return Fate::Ends;
@@ -352,11 +372,11 @@ impl Peer {
         desk: &mut D,
         till: &mut T,
     ) -> Fate
-        ensures same_desk { (D.parts desk.new).standing ≡ (D.parts desk.old).standing }
-        ensures asked { AreAskedAt port.entry.zone.now port.entry.role (D.parts desk.old).taken (D.parts desk.new).taken }
+        ensures served { HasAnsweredAt D.parts T.Closes (port.entry.zone.now, port.entry.role) (desk.old, till.old) (desk.new, till.new) }
+        ensures same_till { T.origin till.new ≡ T.origin till.old }
         ensures staff { (word : Word) → result ≡ Fate.Asks word → port.entry.role ≡ roles.All }
     {
-        pay_session::laws::piece_by_piece();
+        pay_session::laws::piece_by_piece::<D, T>();
         match self.send() {
             Fate::GoesOn => {}
             fate => return fate,
@@ -374,7 +394,7 @@ impl Peer {
         }
     }
 
-    /// Takes its turn: at most a few pieces. What staff ask of the service ends it.
+    /// Takes its turn: at most a few pieces. What staff ask of the service ends it, and so does a refused line that is to be kept.
     pub fn turn<D: Desk, T: Till>(
         &mut self,
         buffer: &mut [u8],
@@ -382,14 +402,14 @@ impl Peer {
         desk: &mut D,
         till: &mut T,
     ) -> Fate
-        ensures same_desk { (D.parts desk.new).standing ≡ (D.parts desk.old).standing }
-        ensures asked { AreAskedAt port.entry.zone.now port.entry.role (D.parts desk.old).taken (D.parts desk.new).taken }
+        ensures served { HasAnsweredAt D.parts T.Closes (port.entry.zone.now, port.entry.role) (desk.old, till.old) (desk.new, till.new) }
+        ensures same_till { T.origin till.new ≡ T.origin till.old }
         ensures staff { (word : Word) → result ≡ Fate.Asks word → port.entry.role ≡ roles.All }
     {
-        pay_session::laws::piece_by_piece();
+        pay_session::laws::piece_by_piece::<D, T>();
         for _ in 0..TURN_PIECES {
             match self.step(buffer, port, desk, till) {
-                Fate::GoesOn => {}
+                Fate::GoesOn if self.refused.lines.is_empty() => {}
                 fate => return fate,
             }
         }

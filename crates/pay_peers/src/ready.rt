@@ -1,10 +1,11 @@
 //! Places of a service that stays: one for readers and customers, and one for staff.
 
+use crate::aside::Aside;
 use crate::serving::Serving;
 use crate::shared::Shared;
 use jiff::tz::TimeZone;
 use pay_office::Lane;
-use pay_serve::Place;
+use pay_serve::{Place, StaffPlace};
 use pay_session::{Port, Role};
 use pay_till::{NoTill, Till};
 use std::alloc::Global;
@@ -16,8 +17,8 @@ use std::{io, net};
 
 /// A port for readers and customers, which may be that of other lanes too.
 #[derive(Drop)]
-pub struct Ready<C> {
-    serving: Serving<C>,
+pub struct Ready<C, A> {
+    serving: Serving<C, A>,
 }
 
 /// Where a service is to be found on this host.
@@ -29,7 +30,7 @@ pub struct Ports {
     pub staff: u16,
 }
 
-/// A port for staff, where days are closed by a till. Two lines are words of this port alone, and none of a session. `STOP` ends the
+/// A port for staff. Two lines are words of this port alone, and none of a session. `STOP` ends the
 /// service. `STATS` is answered by one line, `STATS seconds=9 connections=2 connections_in_all=5 dropped=0 lines=7 accepted=3 again=1`,
 /// and then ` refused_20=1` for each number of a refusal that occurred, by rising number. It says of all lanes together:
 ///
@@ -40,13 +41,12 @@ pub struct Ports {
 /// - `accepted`, `again`, `refused_N`: how many of these begin with `OK`, with `AGAIN`, and with `NO N`. Only taps and corrections are
 ///   answered by the first two.
 #[derive(Drop)]
-pub struct Control<E, T> {
-    serving: Serving<E>,
-    till: T,
+pub struct Control<E, A> {
+    serving: Serving<E, A>,
     ports: Ports,
 }
 
-impl<C: Net + Clock + Copy> Ready<C> {
+impl<C: Net + Clock + Copy, A: Aside> Ready<C, A> {
     /// A port at a listener. It ends once it is told to stop. Its connections are counted beside those of the lanes with which it shares
     /// that, and no more are held than there is room for.
     pub fn new(
@@ -54,14 +54,15 @@ impl<C: Net + Clock + Copy> Ready<C> {
         alloc: Global,
         listener: net::TcpListener,
         shared: Shared,
-    ) -> io::Result<Ready<C>> {
-        let serving = Serving::new(&rt, alloc, listener, shared, rt)?;
+        aside: A,
+    ) -> io::Result<Ready<C, A>> {
+        let serving = Serving::new(&rt, alloc, listener, shared, rt, aside)?;
         Ok(Ready { serving })
     }
 }
 
-impl<E: Net + Eprint + Clock + Copy, T: Till> Control<E, T> {
-    /// A port at a listener, with a till. It ends once somebody asks for the service to stop, or it is told to. Its connections are counted
+impl<E: Net + Eprint + Clock + Copy, A: Aside> Control<E, A> {
+    /// A port at a listener. It ends once somebody asks for the service to stop, or it is told to. Its connections are counted
     /// beside those of the other lanes.
     pub fn new(
         rt: E,
@@ -69,14 +70,10 @@ impl<E: Net + Eprint + Clock + Copy, T: Till> Control<E, T> {
         listener: net::TcpListener,
         ports: Ports,
         shared: Shared,
-        till: T,
-    ) -> io::Result<Control<E, T>> {
-        let serving = Serving::new(&rt, alloc, listener, shared, rt)?;
-        Ok(Control {
-            serving,
-            till,
-            ports,
-        })
+        aside: A,
+    ) -> io::Result<Control<E, A>> {
+        let serving = Serving::new(&rt, alloc, listener, shared, rt, aside)?;
+        Ok(Control { serving, ports })
     }
 }
 
@@ -88,7 +85,7 @@ fn say<E: Eprint>(rt: &E, ports: Ports) {
     );
 }
 
-impl<C: Clock + Drop> Place for Ready<C> {
+impl<C: Clock + Drop, A: Aside> Place for Ready<C, A> {
     ghost use Rattle.pay_session.specs.declared.port.Role.TheVariants.{Taps};
 
     ghost asks = { Taps };
@@ -111,25 +108,19 @@ impl<C: Clock + Drop> Place for Ready<C> {
     }
 }
 
-impl<E: Eprint + Clock + Drop, T: Till> Place for Control<E, T> {
-    ghost use Rattle.pay_session.specs.declared.port.Role.TheVariants.{All};
-
-    ghost asks = { All };
-
-    fn role() -> Role {
-        Role::All
-    }
-
-    fn serve<R: Wait + Copy>(self, rt: R, alloc: Global, zone: &TimeZone<'_>, lane: Lane) -> Lane {
-        pay_serve::laws::lanes_ask();
-        let Control {
-            mut serving,
-            mut till,
-            ports,
-        } = self;
+impl<E: Eprint + Clock + Drop, A: Aside> StaffPlace for Control<E, A> {
+    fn serve<R: Wait + Copy, T: Till>(
+        self,
+        rt: R,
+        alloc: Global,
+        zone: &TimeZone<'_>,
+        lane: Lane,
+        till: &mut T,
+    ) -> Lane {
+        let Control { mut serving, ports } = self;
         say(serving.clock(), ports);
         let mut desk = serving.desk(rt, alloc, lane);
-        serving.serve_all(&rt, Port::open(zone), &mut desk, &mut till);
+        serving.serve_all(&rt, Port::open(zone), &mut desk, till);
         desk.into_lane()
     }
 }

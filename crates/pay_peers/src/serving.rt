@@ -1,14 +1,17 @@
 //! A port, with the connections that came there to one lane.
 ghost use Rattle.std.specs.Prelude.{◌≡◌, []};
 ghost use Rattle.pay_serve.specs.Words.{HasShards};
-ghost use Rattle.pay_session.specs.Words.{AreAskedAt};
+ghost use Rattle.pay_session.specs.Words.{HasAnsweredAt};
 ghost use Rattle.pay_peers.specs.declared.word.Word.{Word};
 ghost use Rattle.pay_session.specs.declared.port.Role.TheVariants as roles;
 
+use crate::aside::Aside;
 use crate::fate::Fate;
 use crate::limits::{LONGEST_WAIT, MOST_ACCEPTED, MOST_EVENTS, MOST_FAILURES, PIECE_BYTES};
 use crate::peer::Peer;
 use crate::peers::Peers;
+use crate::refused::Refused;
+use crate::sending::empty;
 use crate::shared::Shared;
 use crate::tally::Seat;
 use crate::word::Word;
@@ -30,7 +33,7 @@ const LISTENER: usize = 0;
 
 /// A port, with the connections that came there to one lane.
 #[derive(Drop)]
-pub struct Serving<C> {
+pub struct Serving<C, A> {
     alloc: Global,
     listener: TcpListener,
     poll: Poll,
@@ -39,6 +42,9 @@ pub struct Serving<C> {
     buffer: Vec<u8>,
     shared: Shared,
     clock: C,
+    aside: A,
+    // The instant of what is refused in this round, if such lines are kept.
+    instant: Option<u64>,
     // When it began to serve, if the clock could tell.
     began: Option<Instant>,
     // How often in a row it failed to wait.
@@ -52,7 +58,7 @@ fn register(poll: &Poll, stream: &mut TcpStream, place: usize) -> io::Result<()>
         .register(stream, token, Interest::READABLE | Interest::WRITABLE)
 }
 
-impl<C: Clock + Copy> Serving<C> {
+impl<C: Clock + Copy, A: Aside> Serving<C, A> {
     /// A port at a listener. It ends once it is told to stop.
     pub fn new<R: Net>(
         rt: &R,
@@ -60,7 +66,8 @@ impl<C: Clock + Copy> Serving<C> {
         listener: net::TcpListener,
         shared: Shared,
         clock: C,
-    ) -> io::Result<Serving<C>> {
+        aside: A,
+    ) -> io::Result<Serving<C, A>> {
         listener.set_nonblocking(true)?;
         let mut listener = TcpListener::from_std(listener);
         let poll = Poll::new(rt)?;
@@ -75,13 +82,25 @@ impl<C: Clock + Copy> Serving<C> {
             buffer: Vec::from_elem(alloc, 0, PIECE_BYTES)?,
             shared,
             clock,
+            aside,
+            instant: None,
             began: None,
             failures: 0,
         })
     }
 }
 
-impl<C: Clock> Serving<C> {
+/// Keeps refused lines, which then are kept.
+fn keep<A: Aside>(refused: &mut Refused, aside: &mut A)
+    ensures { refused.new.lines.items ≡ [] }
+{
+    if !refused.lines.is_empty() {
+        aside.keep_refused(refused.lines.as_slice());
+        empty(&mut refused.lines);
+    }
+}
+
+impl<C: Clock, A: Aside> Serving<C, A> {
     /// The clock that it was given.
     pub fn clock(&self) -> &C {
         &self.clock
@@ -163,21 +182,26 @@ impl<C: Clock> Serving<C> {
         desk: &mut D,
         till: &mut T,
     ) -> Fate
-        ensures same_desk { (D.parts desk.new).standing ≡ (D.parts desk.old).standing }
-        ensures asked { AreAskedAt port.entry.zone.now port.entry.role (D.parts desk.old).taken (D.parts desk.new).taken }
+        ensures served { HasAnsweredAt D.parts T.Closes (port.entry.zone.now, port.entry.role) (desk.old, till.old) (desk.new, till.new) }
+        ensures same_till { T.origin till.new ≡ T.origin till.old }
         ensures staff { (word : Word) → result ≡ Fate.Asks word → port.entry.role ≡ roles.All }
     {
-        pay_session::laws::piece_by_piece();
+        pay_session::laws::piece_by_piece::<D, T>();
         match self.peers.at(place) {
-            Some(peer) => peer.turn(&mut self.buffer, port, desk, till),
+            Some(peer) => {
+                peer.refused.instant = self.instant;
+                let fate = peer.turn(&mut self.buffer, port, desk, till);
+                keep(&mut peer.refused, &mut self.aside);
+                fate
+            }
             None => Fate::Waits,
         }
     }
 
     /// The same, and what becomes of it: it has one more turn soon, it waits, or it is let go.
     fn serve<D: Desk, T: Till>(&mut self, place: usize, port: Port<'_>, desk: &mut D, till: &mut T)
-        ensures same_desk { (D.parts desk.new).standing ≡ (D.parts desk.old).standing }
-        ensures asked { AreAskedAt port.entry.zone.now port.entry.role (D.parts desk.old).taken (D.parts desk.new).taken }
+        ensures served { HasAnsweredAt D.parts T.Closes (port.entry.zone.now, port.entry.role) (desk.old, till.old) (desk.new, till.new) }
+        ensures same_till { T.origin till.new ≡ T.origin till.old }
     {
         match self.turn(place, port, desk, till) {
             Fate::Waits => {}
@@ -192,10 +216,10 @@ impl<C: Clock> Serving<C> {
 
     /// Those that have a turn to come have it, and no more than one.
     fn serve_queued<D: Desk, T: Till>(&mut self, port: Port<'_>, desk: &mut D, till: &mut T)
-        ensures same_desk { (D.parts desk.new).standing ≡ (D.parts desk.old).standing }
-        ensures asked { AreAskedAt port.entry.zone.now port.entry.role (D.parts desk.old).taken (D.parts desk.new).taken }
+        ensures served { HasAnsweredAt D.parts T.Closes (port.entry.zone.now, port.entry.role) (desk.old, till.old) (desk.new, till.new) }
+        ensures same_till { T.origin till.new ≡ T.origin till.old }
     {
-        pay_session::laws::piece_by_piece();
+        pay_session::laws::piece_by_piece::<D, T>();
         for _ in 0..self.peers.queued() {
             if let Some(place) = self.peers.next() {
                 self.serve(place, port, desk, till);
@@ -239,12 +263,23 @@ impl<C: Clock> Serving<C> {
         Some(now.as_secs().saturating_add(u64::from(ahead)))
     }
 
+    /// The instant of what is refused now, if such lines are kept: 0 where the clock cannot be read.
+    fn instant(&self) -> Option<u64> {
+        if !self.aside.keeps_refused() {
+            return None;
+        }
+        match self.clock.since_1970() {
+            Ok(now) => Some(now.as_secs()),
+            Err(_) => Some(0),
+        }
+    }
+
     /// Waits, and serves what is ready.
     fn round<D: Desk, T: Till>(&mut self, port: Port<'_>, desk: &mut D, till: &mut T)
-        ensures same_desk { (D.parts desk.new).standing ≡ (D.parts desk.old).standing }
-        ensures asked { AreAskedAt port.entry.zone.now port.entry.role (D.parts desk.old).taken (D.parts desk.new).taken }
+        ensures served { HasAnsweredAt D.parts T.Closes (port.entry.zone.now, port.entry.role) (desk.old, till.old) (desk.new, till.new) }
+        ensures same_till { T.origin till.new ≡ T.origin till.old }
     {
-        pay_session::laws::piece_by_piece();
+        pay_session::laws::piece_by_piece::<D, T>();
         if !self.wait() {
             return;
         }
@@ -252,6 +287,7 @@ impl<C: Clock> Serving<C> {
         self.accept(port.role);
         self.queue_ready();
         let latest = self.latest();
+        self.instant = self.instant();
         self.serve_queued(Port { latest, ..port }, desk, till);
     }
 
@@ -272,10 +308,10 @@ impl<C: Clock> Serving<C> {
         desk: &mut D,
         till: &mut T,
     )
-        ensures same_desk { (D.parts desk.new).standing ≡ (D.parts desk.old).standing }
-        ensures asked { AreAskedAt port.entry.zone.now port.entry.role (D.parts desk.old).taken (D.parts desk.new).taken }
+        ensures served { HasAnsweredAt D.parts T.Closes (port.entry.zone.now, port.entry.role) (desk.old, till.old) (desk.new, till.new) }
+        ensures same_till { T.origin till.new ≡ T.origin till.old }
     {
-        pay_session::laws::piece_by_piece();
+        pay_session::laws::piece_by_piece::<D, T>();
         self.began = Instant::now(&self.clock).ok();
         for _ in rt.forever() {
             if self.shared.stop.load(Ordering::SeqCst) {

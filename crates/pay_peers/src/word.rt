@@ -3,6 +3,7 @@ ghost use Rattle.std.specs.Prelude.{◌≡◌, ℕ, ◌≤◌, List, [], ◌∷�
 ghost use Rattle.pay_peers.specs.Lines.{word_at};
 
 use pay_session::Role;
+use pay_wire::limits::MOST_LINE_BYTES;
 use std::marker::Model;
 
 /// What staff ask of the service itself, each by a line of its own.
@@ -29,8 +30,8 @@ fn word_at(role: Role, line: &[u8]) -> Option<Word>
     }
 }
 
-/// How many bytes of a line are kept: one more than a word has, so that a longer line shows.
-const KEPT_BYTES: usize = 6;
+/// How many bytes of a line are kept: one more than it may have, so that a longer one shows.
+const KEPT_BYTES: usize = MOST_LINE_BYTES + 1;
 
 /// The line that is being read, as much of it as is kept.
 #[derive(Drop)]
@@ -46,7 +47,7 @@ impl Model for Begun {
 
     ghost view = { λ b. take b.count b.bytes };
 
-    ghost invariant = { λ b. b.count ≤ 6 };
+    ghost invariant = { λ b. b.count ≤ 129 };
 }
 
 impl Begun {
@@ -62,7 +63,7 @@ impl Begun {
 
     /// Adds a byte at the end, if it is kept.
     fn add(&mut self, byte: u8)
-        ensures { self.new ≡ take 6 (self.old ++ byte ∷ []) }
+        ensures { self.new ≡ take 129 (self.old ++ byte ∷ []) }
     {
         if self.count < KEPT_BYTES {
             self.bytes[self.count] = byte;
@@ -72,7 +73,7 @@ impl Begun {
 
     /// Adds bytes at the end, as far as they are kept.
     pub fn extend(&mut self, more: &[u8])
-        ensures { self.new ≡ take 6 (self.old ++ more.now) }
+        ensures { self.new ≡ take 129 (self.old ++ more.now) }
     {
         let _ = &self.count;
         for byte in &more[..KEPT_BYTES.min(more.len())] {
@@ -80,15 +81,27 @@ impl Begun {
         }
     }
 
-    /// The word that the line is at a port which ends with these bytes. A new line begins.
+    /// The line so far, as much of it as is kept.
+    pub fn text(&self) -> &[u8]
+        ensures { result.now ≡ self.now }
+    {
+        &self.bytes[..self.count]
+    }
+
+    /// The word that the line is at a port, which ends with these bytes.
     pub fn finish(&mut self, text: &[u8], role: Role) -> Option<Word>
         ensures word { result ≡ word_at role (self.old ++ text.now) }
         ensures staff { IfSome result (λ _. role ≡ Role.All) }
-        ensures anew { self.new ≡ [] }
+        ensures line { self.new ≡ take 129 (self.old ++ text.now) }
     {
         self.extend(text);
-        let word = word_at(role, &self.bytes[..self.count]);
+        word_at(role, self.text())
+    }
+
+    /// A new line begins.
+    pub fn clear(&mut self)
+        ensures { self.new ≡ [] }
+    {
         self.count = 0;
-        word
     }
 }

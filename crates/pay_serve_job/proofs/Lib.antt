@@ -1,2 +1,3 @@
+pub mod Lent
 pub mod Served
 pub mod Stays

@@ -6,6 +6,7 @@ mod fault;
 mod service;
 mod staying;
 
+pub use pay_peers::Aside;
 pub use pay_serve::{Given, Plan};
 pub use service::{serve, serve_without_ledger, take_given};
 pub use staying::{Staying, stay};

@@ -2,7 +2,7 @@
 ghost use Rattle.std.specs.Prelude.{◌≡◌, length, IfOk, IfErr, OnOk};
 ghost use Rattle.pay_journal.specs.Words.{CanFail};
 ghost use Rattle.pay_serve.specs.Words.{IsOutOfPlan, terms_of};
-ghost use Rattle.pay_serve_job.specs.Stays.{HasStayCause, HasStayedOver, HasStayedBy, EndsNot, IsNoPort, StaysNot, with_staff};
+ghost use Rattle.pay_serve_job.specs.Stays.{HasStayCause, HasStayedOver, HasStayedBy, EndsNot, IsNoPort, StaysNot, ledger_closes, with_staff};
 
 use crate::fault::fault_of;
 use crate::service::take_given;
@@ -11,7 +11,7 @@ use pay_close::{LedgerTill, Watch};
 use pay_jobs::Fault;
 use pay_journal::Keeper;
 use pay_ledger::Ledger;
-use pay_peers::{Control, Ports, Ready, Shared};
+use pay_peers::{Aside, Control, Ports, Ready, Shared};
 use pay_serve::{Given, Plan, ServeFault, listen_on};
 use pay_till::Till;
 use sqlite::Alter;
@@ -59,62 +59,76 @@ fn listen_at<R: Net<Listener = TcpListener, Stream = TcpStream>>(
     }
 }
 
-/// A place at a listener, which is that of others too.
-fn place_at<R: Net + Clock + Copy>(
+/// A place at a listener, which is that of others too, with what its lane does beside its lines.
+fn ready_at<R: Net + Clock + Copy, A: Aside>(
+    rt: R,
+    alloc: Global,
+    listener: &TcpListener,
+    shared: Shared,
+    aside: &A,
+) -> io::Result<Ready<R, A>> {
+    let listener = listener.try_clone()?;
+    let aside = aside.again()?;
+    Ready::new(rt, alloc, listener, shared, aside)
+}
+
+/// The same, or why there is none.
+fn place_at<R: Net + Clock + Copy, A: Aside>(
     rt: R,
     alloc: Global,
     listener: &TcpListener,
     shared: &Shared,
-) -> Result<Ready<R>, Fault>
+    aside: &A,
+) -> Result<Ready<R, A>, Fault>
     ensures { IfErr result IsNoPort }
 {
     let shared = shared.again()?;
-    let place = match listener.try_clone() {
-        Ok(listener) => Ready::new(rt, alloc, listener, shared),
-        Err(error) => Err(error),
-    };
-    match place {
+    match ready_at(rt, alloc, listener, shared, aside) {
         Ok(place) => Ok(place),
         Err(error) => Err(fault_of_port(&error)),
     }
 }
 
 /// So many places at one port, one for each lane.
-fn places_at<R: Net<Listener = TcpListener, Stream = TcpStream> + Clock + Copy>(
+fn places_at<R: Net<Listener = TcpListener, Stream = TcpStream> + Clock + Copy, A: Aside>(
     rt: R,
     alloc: Global,
     port: u16,
     lanes: u8,
     shared: &Shared,
-) -> Result<Vec<Ready<R>>, Fault>
+    aside: &A,
+) -> Result<Vec<Ready<R, A>>, Fault>
     ensures count { IfOk result (λ places. length places.items ≡ lanes) }
     ensures fault { IfErr result IsNoPort }
 {
     let listener = listen_at(&rt, port)?;
     let mut places = Vec::with_capacity(alloc, lanes as usize)?;
     for _ in 0..lanes {
-        let place = place_at(rt, alloc, &listener, shared)?;
+        let place = place_at(rt, alloc, &listener, shared, aside)?;
         places.push_reserved(place);
     }
     Ok(places)
 }
 
 /// Serves everybody at places, and staff at a port with a till, by so many lanes as a plan has and one more.
-fn stay_at<R, K, T: Till>(
+fn stay_at<R, K, T: Till, A>(
     rt: R,
     alloc: Global,
     given: Given<'_, K>,
-    places: Vec<Ready<R>>,
-    control: Control<R, T>,
+    places: Vec<Ready<R, A>>,
+    control: Control<R, A>,
     stop: &AtomicBool,
+    till: &mut T,
 ) -> Result<(), Fault>
 where
     R: Threads + Wait + Clock + Eprint + Copy + Send + 'static,
     K: Keeper + Send + 'static,
+    A: Aside + Send + 'static,
     requires keepers { length given.keepers.items ≡ given.plan.shards }
     requires places { length places.items ≡ given.plan.lanes }
-    ensures stays { IfOk result (λ _. HasStayedBy K.Keeper (terms_of K.Keeper given.entry)) }
-    ensures fails { IfErr result (EndsNot K.Keeper (terms_of K.Keeper given.entry)) }
+    ensures stays { IfOk result (λ _. HasStayedBy K.Keeper T.Closes (terms_of K.Keeper given.entry) (till.old, till.new)) }
+    ensures fails { IfErr result (EndsNot K.Keeper T.Closes (terms_of K.Keeper given.entry) (till.old, till.new)) }
+    ensures same_till { T.origin till.new ≡ T.origin till.old }
     ensures within { OnOk result (IsOutOfPlan (with_staff given.entry.plan) → ⊥) }
     ensures cause { IfErr result (HasStayCause (CanFail K.HasFailed) given.entry.plan) }
 {
@@ -136,22 +150,49 @@ where
         keepers,
     };
     let mut gates = Vec::new(alloc);
-    match pay_serve::stay::<Book, R, K, Ready<R>, Control<R, T>>(
-        rt, alloc, given, places, control, stop, &mut gates,
+    match pay_serve::stay::<Book, R, K, Ready<R, A>, Control<R, A>, T>(
+        rt, alloc, given, places, control, stop, till, &mut gates,
     ) {
         Ok(()) => Ok(()),
         Err(why) => Err(fault_of(why)),
     }
 }
 
+/// The same with a till over a ledger.
+fn stay_into<R, K, S: Alter, C: Watch, A>(
+    rt: R,
+    alloc: Global,
+    given: Given<'_, K>,
+    places: Vec<Ready<R, A>>,
+    control: Control<R, A>,
+    stop: &AtomicBool,
+    ledger: &mut Ledger<S>,
+    watch: &mut C,
+) -> Result<(), Fault>
+where
+    R: Threads + Wait + Clock + Eprint + Copy + Send + 'static,
+    K: Keeper + Send + 'static,
+    A: Aside + Send + 'static,
+    requires keepers { length given.keepers.items ≡ given.plan.shards }
+    requires places { length places.items ≡ given.plan.lanes }
+    ensures stays { IfOk result (λ _. HasStayedBy K.Keeper (ledger_closes S.Store) (terms_of K.Keeper given.entry) (ledger.old, ledger.new)) }
+    ensures fails { IfErr result (EndsNot K.Keeper (ledger_closes S.Store) (terms_of K.Keeper given.entry) (ledger.old, ledger.new)) }
+    ensures within { OnOk result (IsOutOfPlan (with_staff given.entry.plan) → ⊥) }
+    ensures cause { IfErr result (HasStayCause (CanFail K.HasFailed) given.entry.plan) }
+{
+    let mut till = LedgerTill::new(alloc, ledger, watch);
+    stay_at(rt, alloc, given, places, control, stop, &mut till)
+}
+
 /// Serves everybody and staff over a ledger that was taken.
-fn stay_over<R, K, S: Alter, C: Watch>(
+fn stay_over<R, K, S: Alter, C: Watch, A>(
     rt: R,
     alloc: Global,
     given: Given<'_, K>,
     staying: Staying<'_>,
     ledger: &mut Ledger<S>,
     watch: &mut C,
+    aside: A,
 ) -> Result<(), Fault>
 where
     R: Net<Listener = TcpListener, Stream = TcpStream>
@@ -163,9 +204,10 @@ where
         + Send
         + 'static,
     K: Keeper + Send + 'static,
+    A: Aside + Send + 'static,
     requires keepers { length given.keepers.items ≡ given.plan.shards }
-    ensures stays { IfOk result (λ _. HasStayedBy K.Keeper (terms_of K.Keeper given.entry)) }
-    ensures fails { IfErr result (EndsNot K.Keeper (terms_of K.Keeper given.entry)) }
+    ensures stays { IfOk result (λ _. HasStayedBy K.Keeper (ledger_closes S.Store) (terms_of K.Keeper given.entry) (ledger.old, ledger.new)) }
+    ensures fails { IfErr result (EndsNot K.Keeper (ledger_closes S.Store) (terms_of K.Keeper given.entry) (ledger.old, ledger.new)) }
     ensures within { OnOk result (IsOutOfPlan (with_staff given.entry.plan) → ⊥) }
     ensures cause { IfErr result (HasStayCause (CanFail K.HasFailed) given.entry.plan) }
 {
@@ -174,26 +216,43 @@ where
         staff: staying.staff,
     };
     let shared = Shared::new(alloc, staying.stop, staying.ahead)?;
-    let places = places_at(rt, alloc, ports.everybody, given.plan.lanes, &shared)?;
+    let places = places_at(
+        rt,
+        alloc,
+        ports.everybody,
+        given.plan.lanes,
+        &shared,
+        &aside,
+    )?;
     let listener = listen_at(&rt, ports.staff)?;
-    let till = LedgerTill::new(alloc, ledger, watch);
-    match Control::new(rt, alloc, listener, ports, shared, till) {
-        Ok(control) => stay_at(rt, alloc, given, places, control, staying.stop),
-        Err(error) => Err(fault_of_port(&error)),
-    }
+    let control = match Control::new(rt, alloc, listener, ports, shared, aside) {
+        Ok(control) => control,
+        Err(error) => return Err(fault_of_port(&error)),
+    };
+    stay_into(
+        rt,
+        alloc,
+        given,
+        places,
+        control,
+        staying.stop,
+        ledger,
+        watch,
+    )
 }
 
 /// Serves everybody at one port, by so many lanes as a plan has, and staff at another, by a fare file and the clock of a zone, until staff
-/// ask for the service to stop, or it is told to. Days are closed into a ledger, if the watch lets them. The lines of journals, which are
+/// ask for the service to stop, or it is told to. Each lane has what it does beside its lines. Days are closed into a ledger, if the watch lets them. The lines of journals, which are
 /// given by their numbers from 0 on, are taken again before the first connection; and each shard has a keeper of what it newly accepts. A
 /// ledger that does not agree with what the journals give back is not [taken](pay_jobs::take_with), and then no port is.
-pub fn stay<R, K, S: Alter, C: Watch>(
+pub fn stay<R, K, S: Alter, C: Watch, A>(
     rt: R,
     alloc: Global,
     given: Given<'_, K>,
     staying: Staying<'_>,
     ledger: &mut Ledger<S>,
     watch: &mut C,
+    aside: A,
 ) -> Result<(), Fault>
 where
     R: Net<Listener = TcpListener, Stream = TcpStream>
@@ -205,13 +264,14 @@ where
         + Send
         + 'static,
     K: Keeper + Send + 'static,
+    A: Aside + Send + 'static,
     requires keepers { length given.keepers.items ≡ given.plan.shards }
-    ensures stays { IfOk result (λ _. HasStayedOver K.Keeper (terms_of K.Keeper given.entry) S.Store ledger.old) }
-    ensures fails { IfErr result (StaysNot K.Keeper (terms_of K.Keeper given.entry) S.Store ledger.old) }
+    ensures stays { IfOk result (λ _. HasStayedOver K.Keeper S.Store (terms_of K.Keeper given.entry) ledger.old ledger.new) }
+    ensures fails { IfErr result (StaysNot K.Keeper S.Store (terms_of K.Keeper given.entry) ledger.old ledger.new) }
     ensures within { OnOk result (IsOutOfPlan (with_staff given.entry.plan) → ⊥) }
     ensures cause { IfErr result (HasStayCause (CanFail K.HasFailed) given.entry.plan) }
 {
     take_given(alloc, &given.editions, &given.zone, given.texts, ledger)?;
     watch.begins();
-    stay_over(rt, alloc, given, staying, ledger, watch)
+    stay_over(rt, alloc, given, staying, ledger, watch, aside)
 }

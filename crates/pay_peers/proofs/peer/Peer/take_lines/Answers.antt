@@ -22,8 +22,8 @@ lines-preserved g c =
     let step = c.in_ok-word.ensures.taken in
     let none : None ≡ c.in_ok-word.word = none_from c.in_ok-word.word (sym c.is_some.ensures ∙ c.if-is_some.false) in
     let P : Option Word → Type 0 = λ word. IsTaken c.args.port.role c.args.self.now.begun c.args.piece.now word c.take_line.new.self.begun c.in_ok-word.behind.now in (
-      c.in_ok-word.ensures.same_desk ∙ so_far.0,
-      c.piece_by_piece.ensures.after _ _ _ _ _ so_far.1 c.in_ok-word.ensures.asked,
+      c.piece_by_piece.ensures.after _ _ _ _ _ _ _ so_far.0 c.in_ok-word.ensures.served,
+      c.in_ok-word.ensures.same_till ∙ so_far.1,
       c.in_ok-word.ensures.pending ∙ so_far.2,
       subst P (sym none) (taken_then c.args.port.role c.args.self.now.begun c.args.piece.now c.lines.self.begun c.lines.rest.now _ _ c.in_ok-word.word so_far.3 step),
     )

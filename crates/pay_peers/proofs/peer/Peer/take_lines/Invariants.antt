@@ -1,13 +1,12 @@
 use Rattle.std.proofs.Common.{◌≡◌, [], length, None}
-use Rattle.pay_session.specs.Words.{AreAskedAt}
+use Rattle.pay_session.specs.Words.{HasAnsweredAt}
 use Rattle.pay_peers.specs.Lines.{IsTaken}
 use Rattle.pay_peers.proofs.peer.Peer.take_lines.Given as goal
 
 abbrev pub invariant-lines : goal.invariant-lines
 invariant-lines g l =
-    let D = g.D.Desk in
-    ((D.parts l.desk).standing ≡ (D.parts l.initial.desk).standing)
-    × AreAskedAt l.port.zone.now l.port.role (D.parts l.initial.desk).taken (D.parts l.desk).taken
+    HasAnsweredAt g.D.Desk.parts g.T.Till.Closes (l.port.zone.now, l.port.role) (l.initial.desk, l.initial.till) (l.desk, l.till)
+    × (g.T.Till.origin l.till ≡ g.T.Till.origin l.initial.till)
     × (l.self.pending.items ≡ [])
     × IsTaken l.port.role l.initial.self.begun l.initial.rest None l.self.begun l.rest
 

@@ -1,0 +1,145 @@
+//! What the lanes of a service do beside their lines, over files.
+
+use crate::journal::{folder_of, open_or_make, place_of, settle_folder_of, settle_target};
+use crate::kept::copy_of;
+use pay_peers::Aside;
+use std::alloc::AllocError;
+use std::fs::{File, Files};
+use std::io::{Eprint, ErrorKind, Read, Seek, SeekFrom, Write};
+use std::sync::Arc;
+use std::sync::atomic::{AtomicBool, Ordering};
+use std::{fs, io};
+
+/// The file of refused lines, as one lane has it: each adds at its end, whatever others do at the same time.
+#[derive(Drop)]
+struct RefusedFile {
+    file: File,
+    path: String,
+    // Whether standard error has that a line was not kept.
+    told: Arc<AtomicBool>,
+}
+
+/// What a lane of a service does beside its lines: those that are refused are added to a file, if there is one.
+#[derive(Drop)]
+pub struct LaneFiles<R> {
+    rt: R,
+    refused: Option<RefusedFile>,
+}
+
+/// Whether a file is empty, or begins as one of refused lines: by the number of a refusal, of which each begins with 1, 2 or 5. A ledger
+/// does not, nor does its log.
+fn begins_well(file: &mut File) -> io::Result<bool> {
+    let mut first = [0];
+    Ok(file.read(&mut first)? == 0 || matches!(first[0], b'1' | b'2' | b'5'))
+}
+
+/// Whether a file at a path lies in a folder, or would.
+fn lies_in<R: Files + AllocGlobal>(rt: &R, path: &str, folder: &str) -> io::Result<bool> {
+    let place = place_of(rt, path)?;
+    let folder = fs::canonicalize(rt, folder)?;
+    Ok(folder_of(place.as_str()) == folder.as_str())
+}
+
+/// Ends the last line of a file, of which a crash may have left a part.
+fn end_line(file: &mut File) -> io::Result<()> {
+    let mut last = [b'\n'];
+    if file.seek(SeekFrom::End(0))? > 0 {
+        file.seek(SeekFrom::End(-1))?;
+        file.read(&mut last)?;
+    }
+    if last[0] != b'\n' {
+        file.write_all(b"\n")?;
+    }
+    Ok(())
+}
+
+/// The file of refused lines at a path, which is made where there is none. No other service has it then. In the folder of the journals
+/// nothing is made.
+fn refused_at<R: Files<File = File> + AllocGlobal>(
+    rt: &R,
+    path: &str,
+    journals: &str,
+) -> io::Result<RefusedFile> {
+    if lies_in(rt, path, journals)? {
+        return Err(io::Error::from(ErrorKind::InvalidInput));
+    }
+    let mut file = open_or_make(rt, path)?;
+    if !file.metadata()?.is_file() {
+        return Err(io::Error::from(ErrorKind::InvalidInput));
+    }
+    file.try_lock().map_err(io::Error::from)?;
+    if !begins_well(&mut file)? {
+        return Err(io::Error::from(ErrorKind::InvalidData));
+    }
+    end_line(&mut file)?;
+    settle_target(rt, path)?;
+    settle_folder_of(rt, path)?;
+    Ok(RefusedFile {
+        file,
+        path: copy_of(rt.alloc(), path)?,
+        told: Arc::new(rt.alloc(), AtomicBool::new(false)).map_err(AllocError::from)?,
+    })
+}
+
+impl RefusedFile {
+    /// The same file for another lane.
+    fn again<R: AllocGlobal>(&self, rt: &R) -> io::Result<RefusedFile> {
+        Ok(RefusedFile {
+            file: self.file.try_clone()?,
+            path: copy_of(rt.alloc(), self.path.as_str())?,
+            told: Arc::clone(&self.told)?,
+        })
+    }
+
+    /// Adds lines at the end, by one write: other lanes may add theirs meanwhile. Whether all are there.
+    fn add(&mut self, lines: &[u8]) -> bool {
+        match self.file.write(lines) {
+            Ok(count) => count == lines.len(),
+            Err(_) => false,
+        }
+    }
+
+    /// Says that a line was not kept, once for all lanes.
+    fn report<R: Eprint>(&self, rt: &R) {
+        if !self.told.swap(true, Ordering::SeqCst) {
+            let path = self.path.as_str();
+            let _ = eprintln!(rt; "farebox: cannot keep refused lines in {path}");
+        }
+    }
+}
+
+impl<R: Files<File = File> + AllocGlobal + Copy> LaneFiles<R> {
+    /// Those of the first lane, beside a folder of journals. Refused lines are kept in the file at a path, if one is given.
+    pub fn open(rt: R, journals: &str, refused: Option<&str>) -> io::Result<LaneFiles<R>> {
+        let refused = match refused {
+            Some(path) => Some(refused_at(&rt, path, journals)?),
+            None => None,
+        };
+        Ok(LaneFiles { rt, refused })
+    }
+}
+
+impl<R: Eprint + AllocGlobal + Copy> Aside for LaneFiles<R> {
+    fn again(&self) -> io::Result<LaneFiles<R>> {
+        let refused = match &self.refused {
+            Some(refused) => Some(refused.again(&self.rt)?),
+            None => None,
+        };
+        Ok(LaneFiles {
+            rt: self.rt,
+            refused,
+        })
+    }
+
+    fn keeps_refused(&self) -> bool {
+        self.refused.is_some()
+    }
+
+    fn keep_refused(&mut self, lines: &[u8]) {
+        if let Some(refused) = &mut self.refused {
+            if !refused.add(lines) {
+                refused.report(&self.rt);
+            }
+        }
+    }
+}
