@@ -1,5 +1,8 @@
 pub mod Fronts
 pub mod LastOnes
+pub mod Winners
+pub mod WeekSplit
 pub mod ByRail
 pub mod Beside
-mod ReasonRows
+pub mod ReasonRows
+mod CapRows

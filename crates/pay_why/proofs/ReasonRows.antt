@@ -2,6 +2,7 @@
 use Rattle.std.proofs.Common.{◌≡◌, ℕ, ◌+◌, ◌*◌, false, List, [], ◌∷◌, Some, None, refl, ap}
 use Rattle.std.specs.FinMap.{from_entries, get-from_entries}
 use Rattle.std.specs.Cmp.{nat_cmp_total}
+use Rattle.pay_tables.specs.declared.band.Cover.TheVariants.{Buses, Zones}
 use Rattle.pay_tables.specs.declared.zones.Span.{Span}
 use Rattle.pay_tables.specs.declared.place.Place.{Place}
 use Rattle.pay_tables.specs.declared.place.Place.TheVariants.{Station}
@@ -23,7 +24,7 @@ use Rattle.pay_rules.specs.Journeys.{rail_journeys}
 use Rattle.pay_why.specs.RailReasons.{run_reason, rail_reason, rail_fare}
 use Rattle.pay_why.specs.Places.{rail_reason_at}
 
-abbrev zones : ℕ → ℕ → Span
+abbrev pub zones : ℕ → ℕ → Span
 zones from to = record { from = from; to = to }
 
 abbrev single : ℕ → ℕ → ℕ → ℕ → Single
@@ -33,45 +34,47 @@ abbrev places : List (ℕ × Place)
 places = (10, Station 1 1 1) ∷ (11, Station 1 2 1) ∷ (12, Station 2 2 2) ∷ (13, Station 2 3 2) ∷ (14, Station 3 3 3) ∷ []
 
 -- day 19,723 is a Monday and a public holiday, 2024-01-01
-abbrev sample : FareTables
+abbrev pub sample : FareTables
 sample = record {
   zones = 3;
   minutes = 90 ∷ 100 ∷ 110 ∷ [];
   rules = record { bus = 175; maximum = 860; hopper = 3_600; same_free = 120; same_limit = 1_800 };
   singles = single 1 1 280 270 ∷ single 1 2 340 280 ∷ single 1 3 370 300 ∷ single 2 2 200 190 ∷ single 2 3 210 195 ∷ single 3 3 200 180 ∷ [];
-  bands = [];
+  bands =
+      record { cover = Buses; day = 525; week = 2_470 } ∷ record { cover = Zones (zones 1 2); day = 890; week = 4_470 }
+      ∷ record { cover = Zones (zones 1 3); day = 1_050; week = 5_250 } ∷ [];
   holidays = 19_723 ∷ [];
   places = from_entries places;
   interchanges = record { a = 10; b = 12; seconds = 1_200 } ∷ [];
 }
 
-abbrev editions : FareEditions
+abbrev pub editions : FareEditions
 editions = record { own = sample; items = [] }
 
-at_10 : station_at sample 10 ≡ Station 1 1 1
+pub at_10 : station_at sample 10 ≡ Station 1 1 1
 at_10 = rw (get-from_entries nat_cmp_total places 10) refl
 
 at_11 : station_at sample 11 ≡ Station 1 2 1
 at_11 = rw (get-from_entries nat_cmp_total places 11) refl
 
-at_12 : station_at sample 12 ≡ Station 2 2 2
+pub at_12 : station_at sample 12 ≡ Station 2 2 2
 at_12 = rw (get-from_entries nat_cmp_total places 12) refl
 
-at_13 : station_at sample 13 ≡ Station 2 3 2
+pub at_13 : station_at sample 13 ≡ Station 2 3 2
 at_13 = rw (get-from_entries nat_cmp_total places 13) refl
 
-at_14 : station_at sample 14 ≡ Station 3 3 3
+pub at_14 : station_at sample 14 ≡ Station 3 3 3
 at_14 = rw (get-from_entries nat_cmp_total places 14) refl
 
 -- a tap at a local second of a day, where the clock shows UTC
-abbrev tap : Kind → ℕ → ℕ → ℕ → Touch
+abbrev pub tap : Kind → ℕ → ℕ → ℕ → Touch
 tap kind place day second = record { filled = false; first = 1; second = 1; stamp = record { utc = 86_400 * day + second; day = day; second = second }; place = place; kind = kind }
 
 -- a leg between two stations at a local second of a day, and so many seconds long
-abbrev leg : ℕ → ℕ → ℕ → ℕ → ℕ → Leg
+abbrev pub leg : ℕ → ℕ → ℕ → ℕ → ℕ → Leg
 leg from to day second long = record { entry = tap In from day second; exit = tap Out to day (second + long) }
 
-abbrev run : Leg → List Leg → Journey
+abbrev pub run : Leg → List Leg → Journey
 run first others = journey.Run (record { first = first; others = others })
 
 -- a journey with no rail tap beside it has this reason, and by that this fare

@@ -3,5 +3,7 @@ pub mod Peaks
 pub mod LoneTaps
 pub mod RailReasons
 pub mod Places
+pub mod Caps
+pub mod CapLaws
 pub mod Laws
 pub mod Words

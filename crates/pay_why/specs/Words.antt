@@ -1,4 +1,4 @@
--- Words for the crates above: why a boarding pays or not, and why a journey by rail costs what it costs.
+-- Words for the crates above: why a boarding pays or not, why a journey by rail costs what it costs, and why a day or a week does.
 pub use Rattle.pay_why.specs.Boardings.{last_paid_before, reason_after, boarding_reason, pays_by_reason, boarding_fare, IsLastPaying}
 pub use Rattle.pay_why.specs.Peaks.{peak_reason, peak_by_reason}
 pub use Rattle.pay_why.specs.LoneTaps.{lone_reason}
@@ -7,3 +7,5 @@ pub use Rattle.pay_why.specs.Places.{last_tap, tap_before, tap_after, rail_reaso
 pub use Rattle.pay_why.specs.Laws.{ReasonsArePaying, FirstIsFirst, InstantsPay, InstantsTellTimes, ReasonsGiveBoardingFares}
 pub use Rattle.pay_why.specs.Laws.{PeakReasonsArePeak, ReasonsGiveRailFares, OnlyBoardingsHaveNone, StationLegsBySeconds, LateExitsAreLate, EarlyEntriesAreEarly}
 pub use Rattle.pay_why.specs.Laws.{JourneysHaveReasons, NeighboursAreBeside, LoneTapsAreNoLegs}
+pub use Rattle.pay_why.specs.Caps.{Offered, winning, capped_band, cap_reason, day_reason, sums_of_day, week_reason, sums_of_week}
+pub use Rattle.pay_why.specs.CapLaws.{Wins, NamedBandsWin, NoneNamedIsLeast, ReasonsNameWinners, DayReasonsGivePrices, DaysAreSplit, WeekReasonsGivePrices, WeeksAreSplit, DaySumsGiveReasons, WeekSumsGiveReasons}

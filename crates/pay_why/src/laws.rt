@@ -3,6 +3,10 @@
 ghost use Rattle.pay_why.specs.Laws.{ReasonsArePaying, FirstIsFirst, InstantsPay, InstantsTellTimes, ReasonsGiveBoardingFares};
 ghost use Rattle.pay_why.specs.Laws.{PeakReasonsArePeak, ReasonsGiveRailFares, OnlyBoardingsHaveNone, StationLegsBySeconds, LateExitsAreLate, EarlyEntriesAreEarly};
 ghost use Rattle.pay_why.specs.Laws.{JourneysHaveReasons, NeighboursAreBeside, LoneTapsAreNoLegs};
+ghost use Rattle.pay_why.specs.CapLaws.{NamedBandsWin, NoneNamedIsLeast, ReasonsNameWinners, DayReasonsGivePrices, DaysAreSplit};
+ghost use Rattle.pay_why.specs.CapLaws.{WeekReasonsGivePrices, WeeksAreSplit, DaySumsGiveReasons, WeekSumsGiveReasons};
+
+use pay_tables::Editions;
 
 /// By its reason a boarding pays just when it pays by the Hopper rule. Only the first one has the reason
 /// that it is the first. The instant of any other is that of the last boarding before it that pays: longer
@@ -59,4 +63,42 @@ pub fn rail_places()
     pay_links::laws::one_division();
     pay_links::laws::each_tap();
     pay_pairs::laws::one_parting();
+}
+
+/// The band that a reason of a day or a week names is the one whose offer wins: no other band offers less,
+/// and none that stands before it offers as little. Where it names none, no band offers less than what all
+/// comes to. The price is that offer and the maximum fares.
+pub fn winners()
+    ensures named { NamedBandsWin }
+    ensures none { NoneNamedIsLeast }
+    ensures winner { ReasonsNameWinners }
+{}
+
+/// The reason of a day gives its price and the band that statements name. What is inside of that band and
+/// what is outside are all fares but the maximum fares, and its cap is below what is inside.
+pub fn day_reasons()
+    ensures prices { DayReasonsGivePrices }
+    ensures split { DaysAreSplit }
+{
+    winners();
+}
+
+/// The reason of a week gives its price, and is split in the same way.
+pub fn week_reasons()
+    ensures prices { WeekReasonsGivePrices }
+    ensures split { WeeksAreSplit }
+{
+    winners();
+    pay_caps::laws::bounds();
+}
+
+/// The sums of the fares of a day's or of a week's journeys give the reason of these, by the tables of each
+/// day.
+pub fn reasons_by_sums(editions: &Editions)
+    ensures day { DaySumsGiveReasons editions.now }
+    ensures week { WeekSumsGiveReasons editions.now }
+{
+    pay_caps::laws::day_prices(editions);
+    pay_caps::laws::sums_outside();
+    pay_caps::laws::charges();
 }

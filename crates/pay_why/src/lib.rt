@@ -1,8 +1,11 @@
-//! Why a journey costs what it costs by itself, for whoever asks why it was charged.
+//! Why a journey costs what it costs by itself, and why a day and a week cost what they cost, for whoever
+//! asks why it was charged.
 #![tactic(auto)]
 
 mod boarding;
 mod boardings;
+mod cap;
+mod caps;
 pub mod laws;
 mod lone;
 mod lone_taps;
@@ -11,9 +14,12 @@ mod peaks;
 mod places;
 mod rail;
 mod rail_journeys;
+mod week_caps;
 
 pub use boarding::BoardingReason;
 pub use boardings::{boarding_fare, boarding_reason};
+pub use cap::{CapReason, CappedBand};
+pub use caps::day_reason;
 pub use lone::LoneReason;
 pub use lone_taps::lone_reason;
 pub use peak::PeakReason;
@@ -21,3 +27,4 @@ pub use peaks::peak_reason;
 pub use places::rail_reason_at;
 pub use rail::RailReason;
 pub use rail_journeys::rail_reason;
+pub use week_caps::week_reason;
