@@ -2,6 +2,7 @@ pub mod Fronts
 pub mod LastOnes
 pub mod Winners
 pub mod WeekSplit
+pub mod Counted
 pub mod ByRail
 pub mod Beside
 pub mod ReasonRows

@@ -5,5 +5,7 @@ pub mod RailReasons
 pub mod Places
 pub mod Caps
 pub mod CapLaws
+pub mod Dues
+pub mod DueLaws
 pub mod Laws
 pub mod Words

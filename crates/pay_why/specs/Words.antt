@@ -9,3 +9,5 @@ pub use Rattle.pay_why.specs.Laws.{PeakReasonsArePeak, ReasonsGiveRailFares, Onl
 pub use Rattle.pay_why.specs.Laws.{JourneysHaveReasons, NeighboursAreBeside, LoneTapsAreNoLegs}
 pub use Rattle.pay_why.specs.Caps.{Offered, winning, capped_band, cap_reason, day_reason, sums_of_day, week_reason, sums_of_week}
 pub use Rattle.pay_why.specs.CapLaws.{Wins, NamedBandsWin, NoneNamedIsLeast, ReasonsNameWinners, DayReasonsGivePrices, DaysAreSplit, WeekReasonsGivePrices, WeeksAreSplit, DaySumsGiveReasons, WeekSumsGiveReasons}
+pub use Rattle.pay_why.specs.Dues.{counted_credits, pence_of, due_reason}
+pub use Rattle.pay_why.specs.DueLaws.{DueReasonsAreDue, CountedAreAll, CountedAreOfTheWeek}

@@ -5,6 +5,7 @@ ghost use Rattle.pay_why.specs.Laws.{PeakReasonsArePeak, ReasonsGiveRailFares, O
 ghost use Rattle.pay_why.specs.Laws.{JourneysHaveReasons, NeighboursAreBeside, LoneTapsAreNoLegs};
 ghost use Rattle.pay_why.specs.CapLaws.{NamedBandsWin, NoneNamedIsLeast, ReasonsNameWinners, DayReasonsGivePrices, DaysAreSplit};
 ghost use Rattle.pay_why.specs.CapLaws.{WeekReasonsGivePrices, WeeksAreSplit, DaySumsGiveReasons, WeekSumsGiveReasons};
+ghost use Rattle.pay_why.specs.DueLaws.{DueReasonsAreDue, CountedAreAll, CountedAreOfTheWeek};
 
 use pay_tables::Editions;
 
@@ -102,3 +103,11 @@ pub fn reasons_by_sums(editions: &Editions)
     pay_caps::laws::sums_outside();
     pay_caps::laws::charges();
 }
+
+/// The reason of what is due of a week through a day gives that, by the week's price. The Credits that count
+/// are all that is taken off, and each of them stands and is of a day from Monday through that day.
+pub fn dues()
+    ensures due { DueReasonsAreDue }
+    ensures all { CountedAreAll }
+    ensures of_the_week { CountedAreOfTheWeek }
+{}

@@ -1,11 +1,13 @@
-//! Why a journey costs what it costs by itself, and why a day and a week cost what they cost, for whoever
-//! asks why it was charged.
+//! Why a journey costs what it costs by itself, why a day and a week cost what they cost, and what is due of that,
+//! for whoever asks why it was charged.
 #![tactic(auto)]
 
 mod boarding;
 mod boardings;
 mod cap;
 mod caps;
+mod due;
+mod dues;
 pub mod laws;
 mod lone;
 mod lone_taps;
@@ -14,12 +16,15 @@ mod peaks;
 mod places;
 mod rail;
 mod rail_journeys;
+mod standing;
 mod week_caps;
 
 pub use boarding::BoardingReason;
 pub use boardings::{boarding_fare, boarding_reason};
 pub use cap::{CapReason, CappedBand};
 pub use caps::day_reason;
+pub use due::DueReason;
+pub use dues::{counted_credits, due_reason};
 pub use lone::LoneReason;
 pub use lone_taps::lone_reason;
 pub use peak::PeakReason;
