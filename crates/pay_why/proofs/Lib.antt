@@ -3,6 +3,7 @@ pub mod LastOnes
 pub mod Winners
 pub mod WeekSplit
 pub mod Counted
+pub mod Corrected
 pub mod ByRail
 pub mod Beside
 pub mod ReasonRows

@@ -7,5 +7,7 @@ pub mod Caps
 pub mod CapLaws
 pub mod Dues
 pub mod DueLaws
+pub mod Corrections
+pub mod CorrectionLaws
 pub mod Laws
 pub mod Words

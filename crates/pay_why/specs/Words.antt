@@ -11,3 +11,5 @@ pub use Rattle.pay_why.specs.Caps.{Offered, winning, capped_band, cap_reason, da
 pub use Rattle.pay_why.specs.CapLaws.{Wins, NamedBandsWin, NoneNamedIsLeast, ReasonsNameWinners, DayReasonsGivePrices, DaysAreSplit, WeekReasonsGivePrices, WeeksAreSplit, DaySumsGiveReasons, WeekSumsGiveReasons}
 pub use Rattle.pay_why.specs.Dues.{counted_credits, pence_of, due_reason}
 pub use Rattle.pay_why.specs.DueLaws.{DueReasonsAreDue, CountedAreAll, CountedAreOfTheWeek}
+pub use Rattle.pay_why.specs.Corrections.{fix_reason, tap_reason, stands_by_reason, effective_by_reason}
+pub use Rattle.pay_why.specs.CorrectionLaws.{ReasonsAreStanding, ReasonsGiveEffective, DropsAreAccepted, VoidsAreStanding}

@@ -6,6 +6,7 @@ ghost use Rattle.pay_why.specs.Laws.{JourneysHaveReasons, NeighboursAreBeside, L
 ghost use Rattle.pay_why.specs.CapLaws.{NamedBandsWin, NoneNamedIsLeast, ReasonsNameWinners, DayReasonsGivePrices, DaysAreSplit};
 ghost use Rattle.pay_why.specs.CapLaws.{WeekReasonsGivePrices, WeeksAreSplit, DaySumsGiveReasons, WeekSumsGiveReasons};
 ghost use Rattle.pay_why.specs.DueLaws.{DueReasonsAreDue, CountedAreAll, CountedAreOfTheWeek};
+ghost use Rattle.pay_why.specs.CorrectionLaws.{ReasonsAreStanding, ReasonsGiveEffective, DropsAreAccepted, VoidsAreStanding};
 
 use pay_tables::Editions;
 
@@ -110,4 +111,13 @@ pub fn dues()
     ensures due { DueReasonsAreDue }
     ensures all { CountedAreAll }
     ensures of_the_week { CountedAreOfTheWeek }
+{}
+
+/// By their reasons corrections stand and taps count just when they do, so these give the effective taps.
+/// The Drop or the Void that a reason names is accepted and names it, and the Void stands.
+pub fn corrections()
+    ensures standing { ReasonsAreStanding }
+    ensures effective { ReasonsGiveEffective }
+    ensures drops { DropsAreAccepted }
+    ensures voids { VoidsAreStanding }
 {}

@@ -1,11 +1,13 @@
-//! Why a journey costs what it costs by itself, why a day and a week cost what they cost, and what is due of that,
-//! for whoever asks why it was charged.
+//! Why a journey costs what it costs by itself, why a day and a week cost what they cost, what is due of that,
+//! and what corrections do, for whoever asks why it was charged.
 #![tactic(auto)]
 
 mod boarding;
 mod boardings;
 mod cap;
 mod caps;
+mod correction;
+mod corrections;
 mod due;
 mod dues;
 pub mod laws;
@@ -23,6 +25,8 @@ pub use boarding::BoardingReason;
 pub use boardings::{boarding_fare, boarding_reason};
 pub use cap::{CapReason, CappedBand};
 pub use caps::day_reason;
+pub use correction::{FixReason, TapReason};
+pub use corrections::{fix_reason, tap_reason};
 pub use due::DueReason;
 pub use dues::{counted_credits, due_reason};
 pub use lone::LoneReason;
