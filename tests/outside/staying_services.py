@@ -18,7 +18,7 @@ from support.serving import break_off, connected
 SILENCE, TO_END = 30, 12
 # How many bytes a service may grow by for each accepted line, for each other one, for each connection, for each account
 # of a close, and in any case.
-BYTES_ACCEPTED, BYTES_OTHER, BYTES_A_PEER, BYTES_A_QUOTE, BYTES = 400, 60, 4_096, 1_500, 8 << 20
+BYTES_ACCEPTED, BYTES_OTHER, BYTES_A_PEER, BYTES_A_QUOTE, BYTES = 400, 60, 12_288, 1_500, 8 << 20
 # How many lines a reader sends at once, and how many may wait for their replies.
 AT_ONCE, AHEAD = (1, 1, 1, 2, 5, 20), 64
 # What lines are answered that wait for a shard which cannot keep its lines.
