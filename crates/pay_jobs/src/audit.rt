@@ -173,7 +173,9 @@ fn compared(
     shard: &Shard<Book>,
     zone: &str,
     kept: Option<&str>,
-) -> Result<Vec<Fault>, Fault> {
+) -> Result<Vec<Fault>, Fault>
+    requires { shard.now.memory.forgotten ≡ 0 }
+{
     let mut list = Vec::new(alloc);
     if let Some(kept) = kept {
         put_compared(&mut list, compare_with(alloc, shard, zone, kept))?;
@@ -201,7 +203,9 @@ fn all_open<S: Alter>(
     alloc: Global,
     shard: &Shard<Book>,
     ledger: &mut Ledger<S>,
-) -> Result<Open, Fault> {
+) -> Result<Open, Fault>
+    requires { shard.now.memory.forgotten ≡ 0 }
+{
     let mut open = Open {
         unsettled: Vec::new(alloc),
         unclosed: BTreeMap::new(alloc),
@@ -272,7 +276,9 @@ fn posted_weeks<S: Alter>(
     shard: &Shard<Book>,
     ledger: &mut Ledger<S>,
     closed: &mut Closed,
-) -> Result<Vec<PostedWeek>, Fault> {
+) -> Result<Vec<PostedWeek>, Fault>
+    requires { shard.now.memory.forgotten ≡ 0 }
+{
     let accounts = accounts_of(alloc, shard.journal())?;
     let mut list = Vec::new(alloc);
     for number in &accounts {

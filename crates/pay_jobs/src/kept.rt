@@ -20,6 +20,7 @@ pub(crate) fn compare_with(
     zone: &str,
     kept: &str,
 ) -> Result<(), Fault>
+    requires { shard.now.memory.forgotten ≡ 0 }
     ensures alike { OnOk result (IsAsKept kept.now zone.now shard.now) }
     ensures other { IfErr result (IsOtherThanKept kept.now zone.now shard.now) }
 {

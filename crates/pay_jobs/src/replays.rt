@@ -163,6 +163,7 @@ fn text_at(texts: &[Vec<u8>], place: usize) -> &[u8]
 
 /// What is told of a journal and of so many bytes that are left over.
 fn summed_up(alloc: Global, journal: &Journal, rest: u128) -> Result<Summary, AllocError>
+    requires { journal.now.memory.forgotten ≡ 0 }
     ensures { IfOk result (λ it. it ≡ summary_of (commands_in journal.now.items) rest) }
 {
     let tally = tally_of(alloc, journal)?;
@@ -177,6 +178,7 @@ fn summed_up(alloc: Global, journal: &Journal, rest: u128) -> Result<Summary, Al
 
 /// The tally of the commands of a journal.
 fn tally_of(alloc: Global, journal: &Journal) -> Result<Tally, AllocError>
+    requires { journal.now.memory.forgotten ≡ 0 }
     ensures accounts { IfOk result (λ it. it.accounts.keys ≡ each_once (flat_map account_of (commands_in journal.now.items))) }
     ensures first { IfOk result (λ it. it.first ≡ fold sooner None (flat_map instant_of (commands_in journal.now.items))) }
     ensures last { IfOk result (λ it. it.last ≡ last_of (flat_map instant_of (commands_in journal.now.items))) }
@@ -192,8 +194,9 @@ fn tally_of(alloc: Global, journal: &Journal) -> Result<Tally, AllocError>
     Ok(tally)
 }
 
-/// The accounts of the commands of a journal.
+/// The accounts of the commands of a journal that has forgotten nothing.
 pub(crate) fn accounts_of(alloc: Global, journal: &Journal) -> Result<BTreeSet<u32>, AllocError>
+    requires { journal.now.memory.forgotten ≡ 0 }
     ensures { IfOk result (λ it. it.keys ≡ each_once (flat_map account_of (commands_in journal.now.items))) }
 {
     Ok(tally_of(alloc, journal)?.accounts)
@@ -201,7 +204,8 @@ pub(crate) fn accounts_of(alloc: Global, journal: &Journal) -> Result<BTreeSet<u
 
 /// The command at a place of a journal.
 fn command_at(journal: &Journal, place: usize) -> Command
-    requires { place < length journal.now.items }
+    requires within { place < length journal.now.items }
+    requires whole { journal.now.memory.forgotten ≡ 0 }
     ensures { slice_get (commands_in journal.now.items) place ≡ Some result }
 {
     match journal.get(place) {

@@ -9,7 +9,7 @@ use Rattle.std.proofs.lemmas.List.{append-nil}
 use Rattle.pay_rules.specs.InTurn.{IsIn}
 use Rattle.pay_tables.specs.Words.{FareEditions}
 use Rattle.pay_rules.specs.State.{State}
-use Rattle.pay_shard.specs.Words.{LocalParts, commands_of, transcript_of, AreInPlace, AreBelow, ShardParts, with_item, with_items, with_room, state_now, replay, new_items, IsHistory, without, IsReplyTo, ReplayGoesOn, NewStandAfter, FrontHasReply}
+use Rattle.pay_shard.specs.Words.{LocalParts, commands_of, transcript_of, AreInPlace, AreBelow, ShardParts, with_item, with_items, with_memory, state_now, replay, new_items, IsHistory, without, IsReplyTo, ReplayGoesOn, NewStandAfter, FrontHasReply}
 use Rattle.pay_shard.specs.declared.asked.Asked.{Asked}
 use Rattle.pay_shard.specs.declared.asked.Asked.TheVariants as asked
 use Rattle.pay_shard.specs.declared.desk.DeskFault.{DeskFault}
@@ -24,7 +24,7 @@ use Rattle.pay_journal.proofs.Puts.{with_none}
 -- ---- it begins
 
 pub sees_all : (stuck : Bool) (desk : LocalParts) → AreBelow (length desk.shard.journal) desk.waiting → IsSeen stuck desk.shard desk
-sees_all stuck desk below = record { more = []; is_more = sym (with_none desk.shard desk.shard.room); none = λ _. refl; below = below }
+sees_all stuck desk below = record { more = []; is_more = sym (with_none desk.shard desk.shard.memory); none = λ _. refl; below = below }
 
 pub begins : (desk : LocalParts) (held : Option (List ℕ)) → KeepsLines (record { seen = desk; first = desk.shard.journal; held_first = held; holds = held; stuck = false })
 begins desk held = record { later = []; rest = []; begins = sym (append-nil desk.shard.journal); bytes = Appends-nil held; is_rest = refl }
@@ -50,8 +50,8 @@ settles_not k holds keeps free lines = record {
 
 -- ---- what is seen, if it is not stuck
 
-same_shard : (stuck : Bool) (seen : ShardParts) (desk : LocalParts) → stuck ≡ false → IsSeen stuck seen desk → desk.shard ≡ with_room seen desk.shard.room
-same_shard stuck seen desk free is = is.is_more ∙ ap (λ (l : List Item). with_items seen l desk.shard.room) (is.none free) ∙ with_none seen desk.shard.room
+same_shard : (stuck : Bool) (seen : ShardParts) (desk : LocalParts) → stuck ≡ false → IsSeen stuck seen desk → desk.shard ≡ with_memory seen desk.shard.memory
+same_shard stuck seen desk free is = is.is_more ∙ ap (λ (l : List Item). with_items seen l desk.shard.memory) (is.none free) ∙ with_none seen desk.shard.memory
 
 -- ---- a command was taken
 
@@ -74,11 +74,11 @@ kept_next goes new editions base first later journal item rest held_first held h
 
 module _ (ticket : ℕ) (command : Asked) (k : KeptParts) (before after : LocalParts) (holds : Option (List ℕ)) (free : k.stuck ≡ false) (seen : IsSeen k.stuck k.seen.shard before)
     (same_waiting : k.seen.waiting ≡ before.waiting) (put : IsPutKept ticket command before after k.holds holds) where
-  was : before.shard ≡ with_room k.seen.shard before.shard.room
+  was : before.shard ≡ with_memory k.seen.shard before.shard.memory
   was = same_shard k.stuck k.seen.shard before free seen
 
-  is_now : after.shard ≡ with_item k.seen.shard put.taken.item after.shard.room
-  is_now = put.taken.added ∙ ap (λ (s : ShardParts). with_item s put.taken.item after.shard.room) was
+  is_now : after.shard ≡ with_item k.seen.shard put.taken.item after.shard.memory
+  is_now = put.taken.added ∙ ap (λ (s : ShardParts). with_item s put.taken.item after.shard.memory) was
 
   abbrev pub later_kept : KeptParts
   later_kept = record { seen = after; first = k.first; held_first = k.held_first; holds = holds; stuck = k.stuck }
@@ -105,7 +105,7 @@ module _ (Failed : Type 0) (fault : DeskFault) (command : Asked) (k : KeptParts)
   pub left_seen : IsSeen (is_not_kept fault) k.seen.shard after
   left_seen = record {
     more = put.more;
-    is_more = put.is_more ∙ ap (λ (s : ShardParts). with_items s put.more after.shard.room) (same_shard k.stuck k.seen.shard before free seen);
+    is_more = put.is_more ∙ ap (λ (s : ShardParts). with_items s put.more after.shard.memory) (same_shard k.stuck k.seen.shard before free seen);
     none = none_more put.cause;
     below = subst (AreBelow (length k.seen.shard.journal)) (sym put.same) seen.below;
   }
@@ -156,8 +156,8 @@ all_still P p (t ∷ tickets) all = by (p t) (all_still P p tickets all.1)
     by false rest = rest
 
 module _ (stuck : Bool) (shown : ShardParts) (before after : LocalParts) (ticket : ℕ) (seen : IsSeen stuck shown before) (same : after.shard ≡ before.shard) where
-  is_more_still : after.shard ≡ with_items shown seen.more after.shard.room
-  is_more_still = same ∙ seen.is_more ∙ ap (λ (s : ShardParts). with_items shown seen.more s.room) (sym same)
+  is_more_still : after.shard ≡ with_items shown seen.more after.shard.memory
+  is_more_still = same ∙ seen.is_more ∙ ap (λ (s : ShardParts). with_items shown seen.more s.memory) (sym same)
 
   pub got_seen : after.waiting ≡ without ticket before.waiting → IsSeen stuck shown after
   got_seen got = record {

@@ -7,7 +7,7 @@ use Rattle.std.proofs.lemmas.List.{append-nil}
 use Rattle.pay_tables.specs.Words.{FareEditions}
 use Rattle.pay_wire.specs.Words.{AppendsFront}
 use Rattle.pay_rules.specs.State.{State}
-use Rattle.pay_shard.specs.Words.{LocalParts, commands_of, transcript_of, desk_parts, IsTaken, ShardParts, with_items, with_room, state_now, item_step, is_new, new_items, Standing, with_waiting, without, IsAfterAll, IsNoneOf, NothingIsLost, StandsAsBefore}
+use Rattle.pay_shard.specs.Words.{LocalParts, commands_of, transcript_of, desk_parts, IsTaken, ShardParts, JournalMemory, with_items, with_memory, state_now, item_step, is_new, new_items, Standing, with_waiting, without, IsAfterAll, IsNoneOf, NothingIsLost, StandsAsBefore}
 use Rattle.pay_shard.specs.declared.asked.Asked.{Asked}
 use Rattle.pay_shard.specs.declared.desk.DeskFault.{DeskFault}
 use Rattle.pay_shard.specs.declared.desk.DeskFault.TheVariants.{Memory, NotKept}
@@ -33,8 +33,8 @@ its_line ticket command before after taken =
 
 -- ---- a shard with no more
 
-pub with_none : (s : ShardParts) (room : ℕ) → with_items s [] room ≡ with_room s room
-with_none s room = ap (λ (j : List Item). record { number = s.number; editions = s.editions; base = s.base; journal = j; room = room }) (append-nil s.journal)
+pub with_none : (s : ShardParts) (memory : JournalMemory) → with_items s [] memory ≡ with_memory s memory
+with_none s memory = ap (λ (j : List Item). record { number = s.number; editions = s.editions; base = s.base; journal = j; memory = memory }) (append-nil s.journal)
 
 -- ---- what came of a command
 
@@ -72,11 +72,11 @@ module _ (ticket : ℕ) (command : Asked) (before put after : LocalParts) (held 
       })
 
 -- nothing was put, for want of memory
-pub no_memory : (Failed : Type 0) (fault : DeskFault) (command : Asked) (before after : LocalParts) (held : Option (List ℕ)) → fault ≡ Memory → after.shard ≡ with_room before.shard after.shard.room
+pub no_memory : (Failed : Type 0) (fault : DeskFault) (command : Asked) (before after : LocalParts) (held : Option (List ℕ)) → fault ≡ Memory → after.shard ≡ with_memory before.shard after.shard.memory
     → (desk_parts after).standing ≡ (desk_parts before).standing → IsNotPut Failed fault command before after held held
 no_memory Failed fault command before after held is same stands = record {
   more = [];
-  is_more = same ∙ sym (with_none before.shard after.shard.room);
+  is_more = same ∙ sym (with_none before.shard after.shard.memory);
   same = ap (λ (s : Standing (FareEditions × State)). s.waiting) stands;
   front = 0;
   bytes = Appends-nil held;

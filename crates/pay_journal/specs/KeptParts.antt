@@ -78,7 +78,7 @@ pub record KeepsLines (k : KeptParts) : Type 0 where
 -- what is seen of a local desk: all but what could not be kept, and no ticket waits that is not seen
 pub record IsSeen (stuck : Bool) (seen : ShardParts) (desk : LocalParts) : Type 0 where
   pub more : List Item
-  pub is_more : desk.shard ≡ with_items seen more desk.shard.room
+  pub is_more : desk.shard ≡ with_items seen more desk.shard.memory
   pub none : stuck ≡ false → more ≡ []
   pub below : AreBelow (length seen.journal) desk.waiting
 

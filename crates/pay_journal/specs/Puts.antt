@@ -30,7 +30,7 @@ pub record IsPutKept (ticket : ℕ) (command : Asked) (before after : LocalParts
 -- A command was not taken, for want of memory; or it could not be kept, and stands in the journal or not.
 pub record IsNotPut (Failed : Type 0) (fault : DeskFault) (command : Asked) (before after : LocalParts) (held holds : Option (List ℕ)) : Type 0 where
   pub more : List Item
-  pub is_more : after.shard ≡ with_items before.shard more after.shard.room
+  pub is_more : after.shard ≡ with_items before.shard more after.shard.memory
   pub same : after.waiting ≡ before.waiting
   pub front : ℕ
   pub bytes : Appends held holds (take front (line_of command))

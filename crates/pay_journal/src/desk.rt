@@ -100,7 +100,7 @@ impl<F: Fares, K: Keeper> KeptDesk<F, K> {
 
     /// The shard. If the desk is stuck, its journal may have one item more than is seen.
     pub fn shard(&self) -> &Shard<F>
-        ensures seen { (more : List Item) × (result.now ≡ with_items self.now.seen.shard more result.now.room) × (self.now.stuck ≡ false → more ≡ []) }
+        ensures seen { (more : List Item) × (result.now ≡ with_items self.now.seen.shard more result.now.memory) × (self.now.stuck ≡ false → more ≡ []) }
         ensures number { self.now.seen.shard.number ≡ 0 }
         ensures in_place { AreInPlace 0 self.now.seen.shard.journal }
         ensures history { IsHistory self.now.seen.shard.editions self.now.seen.shard.base self.now.seen.shard.journal }

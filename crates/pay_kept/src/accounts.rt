@@ -20,7 +20,8 @@ fn put_account(list: &mut Vec<u32>, asked: Asked) -> Result<(), AllocError>
 
 /// The item at a place of a journal.
 fn item_at(journal: &Journal, place: usize) -> Item
-    requires { place < length journal.now.items }
+    requires within { place < length journal.now.items }
+    requires whole { journal.now.memory.forgotten ≡ 0 }
     ensures { slice_get journal.now.items place ≡ Some result }
 {
     match journal.get(place) {
@@ -29,8 +30,9 @@ fn item_at(journal: &Journal, place: usize) -> Item
     }
 }
 
-/// The accounts of a journal, each as often as it has a command.
+/// The accounts of a journal that has forgotten nothing, each as often as it has a command.
 fn all_accounts(alloc: Global, journal: &Journal) -> Result<Vec<u32>, AllocError>
+    requires { journal.now.memory.forgotten ≡ 0 }
     ensures { IfOk result (λ list. list.items ≡ asked_of journal.now.items) }
 {
     let mut list = Vec::new(alloc);
@@ -42,6 +44,7 @@ fn all_accounts(alloc: Global, journal: &Journal) -> Result<Vec<u32>, AllocError
 
 /// The same in ascending order.
 pub(crate) fn accounts_in_order(alloc: Global, journal: &Journal) -> Result<Vec<u32>, AllocError>
+    requires { journal.now.memory.forgotten ≡ 0 }
     ensures { IfOk result (λ list. IsPermutation (asked_of journal.now.items) list.items) }
 {
     let mut list = all_accounts(alloc, journal)?;

@@ -25,9 +25,10 @@ fn read(alloc: Global, fares: &str) -> Result<Editions, KeptFault>
     }
 }
 
-/// That what is kept beside a journal is with this zone, and that each account of a shard comes to the same by its fare file as by the
+/// That what is kept beside a journal is with this zone, and that each account of a shard that has forgotten nothing comes to the same by its fare file as by the
 /// shard's; or why not.
 pub fn compare(alloc: Global, shard: &Shard<Book>, zone: &str, kept: &str) -> Result<(), KeptFault>
+    requires { shard.now.memory.forgotten ≡ 0 }
     ensures alike { OnOk result (IsAsKept kept.now zone.now shard.now) }
     ensures other { IfErr result (IsNotAsKept kept.now zone.now shard.now) }
 {

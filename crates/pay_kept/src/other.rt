@@ -55,6 +55,7 @@ fn outside_of_any(
     old: &Editions,
     last: u32,
 ) -> Result<Option<(u32, Touch)>, AllocError>
+    requires { shard.now.memory.forgotten ≡ 0 }
     ensures none { IfOk result (λ found. IfNone found (AreWithin shard.now old.now last)) }
     ensures some { IfOk result (λ found. IfSome found (λ it. IsOutsideOf old.now last (accepted_of (state_now shard.now) it.0) it.1)) }
 {
@@ -127,6 +128,7 @@ pub(crate) fn first_other(
     shard: &Shard<Book>,
     old: &Editions,
 ) -> Result<Option<Other>, AllocError>
+    requires { shard.now.memory.forgotten ≡ 0 }
     ensures alike { IfOk result (λ found. IfNone found (AreAlike shard.now old.now)) }
     ensures other { IfOk result (λ found. IfSome found (λ it. AreTouched shard.now old.now it.difference it.account it.on)) }
 {

@@ -3,7 +3,7 @@ use Rattle.std.proofs.Common.{◌≡◌, ℕ, eqb, Bool, true, false, not, if◌
 use Rattle.std.proofs.lemmas.List.{map_push, length-map}
 use mathlib.Core.List.{IsPrefix}
 use Rattle.pay_mailbox.specs.Words.{SenderParts}
-use Rattle.pay_shard.specs.Words.{ShardParts, answers_given, with_room}
+use Rattle.pay_shard.specs.Words.{JournalMemory, ShardParts, answers_given, with_memory}
 use Rattle.pay_shard.specs.declared.item.Item.{Item}
 use Rattle.pay_shard.specs.declared.reply.Answer.{Answer}
 use Rattle.pay_lanes.specs.Passing.{Passed, passing}
@@ -53,18 +53,18 @@ module _ (Holds : List Passed → Bool → Type 0) where
   }
 
   -- it popped nothing
-  pub still_gated : (s t : ShardParts) (shut : Bool) (ways after : List (SenderParts Answer)) (room : ℕ) → t ≡ with_room s room → shut ≡ false → IsGated Holds s shut ways → IsGated Holds t shut after
-  still_gated s t true ways after room same is_open g = cc
-  still_gated s t false ways after room same is_open g = record {
+  pub still_gated : (s t : ShardParts) (shut : Bool) (ways after : List (SenderParts Answer)) (memory : JournalMemory) → t ≡ with_memory s memory → shut ≡ false → IsGated Holds s shut ways → IsGated Holds t shut after
+  still_gated s t true ways after memory same is_open g = cc
+  still_gated s t false ways after memory same is_open g = record {
     passed = g.passed;
     are = ap all_answered same ∙ g.are;
     gate = g.gate;
     sent = λ yes lane way at. cc;
   }
 
-  pub holds_all : (s t : ShardParts) (shut : Bool) (ways : List (SenderParts Answer)) (room : ℕ) → t ≡ with_room s room → shut ≡ false → IsGated Holds s shut ways → Holds (all_answered t) false
-  holds_all s t true ways room same is_open g = cc
-  holds_all s t false ways room same is_open g = subst (λ ps. Holds ps false) (sym g.are ∙ ap all_answered (sym same)) g.gate
+  pub holds_all : (s t : ShardParts) (shut : Bool) (ways : List (SenderParts Answer)) (memory : JournalMemory) → t ≡ with_memory s memory → shut ≡ false → IsGated Holds s shut ways → Holds (all_answered t) false
+  holds_all s t true ways memory same is_open g = cc
+  holds_all s t false ways memory same is_open g = subst (λ ps. Holds ps false) (sym g.are ∙ ap all_answered (sym same)) g.gate
 
   -- the gate did not let the answer pass
   pub now_shut : (s t : ShardParts) (item : Item) (answer : Answer) (ways : List (SenderParts Answer)) (passes : Bool) → HasAnswered s item answer t → AreTold s None ways → passes ≡ false

@@ -4,6 +4,7 @@ pub mod Endings
 pub mod Exchanges
 pub mod Gated
 pub mod Going
+pub mod InMemory
 pub mod Numbers
 pub mod Openings
 pub mod Ordered

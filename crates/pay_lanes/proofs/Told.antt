@@ -2,7 +2,7 @@
 use Rattle.std.proofs.Common.{◌≡◌, ℕ, zero, suc, ◌+◌, ◌<◌, eqb, Bool, true, false, if◌then◌else◌, List, [], ◌∷◌, ◌++◌, length, Option, Some, None, IfSome, IfNone, slice_get, refl, sym, ap, ◌∙◌, subst, append-nil, arith}
 use Rattle.std.proofs.Math.Dec.{eqb-zero-suc, eqb-suc-zero, eqb-suc-suc}
 use Rattle.pay_mailbox.specs.Words.{SenderParts, having_sent}
-use Rattle.pay_shard.specs.Words.{ShardParts, answers_from, answers_given, item_step, with_room}
+use Rattle.pay_shard.specs.Words.{JournalMemory, ShardParts, answers_from, answers_given, item_step, with_memory}
 use Rattle.pay_tables.specs.Words.{FareEditions}
 use Rattle.pay_rules.specs.State.{State}
 use Rattle.pay_shard.specs.declared.item.Item.{Item}
@@ -115,9 +115,9 @@ pub offered : (s : ShardParts) (ways after : List (SenderParts Answer)) (o : Out
 offered s ways after o None told sent back = subst (AreTold s None) (sym sent) (now_sent s ways o told)
 offered s ways after o (Some b) told sent back = subst (λ u. AreTold s (Some u) after) (sym back.0) (subst (AreTold s (Some o)) (sym back.1) told)
 
--- a shard with other room is told alike
-pub with_other_room : (s t : ShardParts) (room : ℕ) (held : Option Outgoing) (ways : List (SenderParts Answer)) → t ≡ with_room s room → AreTold s held ways → AreTold t held ways
-with_other_room s t room held ways is told = subst (λ u. AreTold u held ways) (sym is) told
+-- a shard with something else in memory is told alike
+pub with_other_memory : (s t : ShardParts) (memory : JournalMemory) (held : Option Outgoing) (ways : List (SenderParts Answer)) → t ≡ with_memory s memory → AreTold s held ways → AreTold t held ways
+with_other_memory s t memory held ways is told = subst (λ u. AreTold u held ways) (sym is) told
 
 pub offered_mailboxes : (ways after : List (SenderParts Answer)) (o : Outgoing) (r : Option Outgoing) → IfNone r (after ≡ sent_at o.lane o.answer ways) → IfSome r (λ back. (back ≡ o) × (after ≡ ways)) → mailboxes after ≡ mailboxes ways
 offered_mailboxes ways after o None sent back = ap mailboxes sent ∙ sent_mailboxes o.lane o.answer ways

@@ -2,7 +2,7 @@
 use Rattle.std.proofs.Common.{◌≡◌, ℕ, Bool, true, false, List, [], ◌∷◌, ◌++◌, length, Option, Some, None, IfSome, is_some, sym, ap, ◌∙◌}
 use Rattle.std.proofs.lemmas.List.{length-map}
 use Rattle.pay_mailbox.specs.Words.{SenderParts, ReceiverParts, having_got}
-use Rattle.pay_shard.specs.Words.{ShardParts, with_room, item_of}
+use Rattle.pay_shard.specs.Words.{JournalMemory, ShardParts, with_memory, item_of}
 use Rattle.pay_shard.specs.declared.item.Entry.{Entry}
 use Rattle.pay_shard.specs.declared.reply.Answer.{Answer}
 use Rattle.pay_lanes.specs.Parts.{WorkerParts, WasFullAt}
@@ -10,7 +10,7 @@ use Rattle.pay_lanes.specs.Working.{mailboxes, entries_of, AreTold, IsOfferable,
 use Rattle.pay_lanes.specs.Turns.{by_shard, HasDone, IsHeldUp}
 use Rattle.pay_lanes.specs.declared.outgoing.Outgoing.{Outgoing}
 use Rattle.pay_lanes.specs.declared.worker.Turn.TheVariants as turns
-use Rattle.pay_lanes.proofs.Told.{with_other_room}
+use Rattle.pay_lanes.proofs.Told.{with_other_memory}
 
 pub same_length : {T : Type 0} (xs ys : List (SenderParts T)) → mailboxes xs ≡ mailboxes ys → length xs ≡ length ys
 same_length xs ys same = sym (length-map xs (λ s. s.mailbox)) ∙ (ap length same ∙ length-map ys (λ s. s.mailbox))
@@ -24,21 +24,21 @@ none_offerable None ways none = tt
 none_offerable (Some o) ways none = cc
 
 -- it popped nothing
-pub rested : (w : WorkerParts) (s : ShardParts) (r : ReceiverParts Entry) (ways : List (SenderParts Answer)) (held : Option Outgoing) (room : ℕ)
-    → IsWorking w → s ≡ with_room w.shard room → r ≡ w.requests → AreTold w.shard held ways → mailboxes ways ≡ mailboxes w.lanes → is_some held ≡ false
+pub rested : (w : WorkerParts) (s : ShardParts) (r : ReceiverParts Entry) (ways : List (SenderParts Answer)) (held : Option Outgoing) (memory : JournalMemory)
+    → IsWorking w → s ≡ with_memory w.shard memory → r ≡ w.requests → AreTold w.shard held ways → mailboxes ways ≡ mailboxes w.lanes → is_some held ≡ false
     → IsWorking (record { shard = s; requests = r; lanes = ways; held = held; shut = w.shut; began = w.began })
-rested w s r ways held room was same none told kept no_held = record {
+rested w s r ways held memory was same none told kept no_held = record {
   popped = ap (λ u. u.got) none ∙ (was.popped ∙ ap entries_of (sym (ap (λ u. u.journal) same)));
   made = ap (λ u. u.made) none ∙ (was.made ∙ sym (same_length ways w.lanes kept));
-  told = with_other_room w.shard s room held ways same told;
+  told = with_other_memory w.shard s memory held ways same told;
   held = none_offerable held ways no_held;
 }
 
 -- it popped one entry
-pub done : (w : WorkerParts) (s t : ShardParts) (r : ReceiverParts Entry) (ways : List (SenderParts Answer)) (held : Option Outgoing) (shut : Bool) (began : Option (List ℕ)) (entry : Entry) (room many place : ℕ)
-    → s ≡ with_room w.shard room → HasItem s entry t → r ≡ having_got w.requests (entry ∷ []) → many ≡ length s.journal → turns.Did many ≡ turns.Did place
+pub done : (w : WorkerParts) (s t : ShardParts) (r : ReceiverParts Entry) (ways : List (SenderParts Answer)) (held : Option Outgoing) (shut : Bool) (began : Option (List ℕ)) (entry : Entry) (memory : JournalMemory) (many place : ℕ)
+    → s ≡ with_memory w.shard memory → HasItem s entry t → r ≡ having_got w.requests (entry ∷ []) → many ≡ length s.journal → turns.Did many ≡ turns.Did place
     → HasDone w place (record { shard = t; requests = r; lanes = ways; held = held; shut = shut; began = began })
-done w s t r ways held shut began entry room many place same item got is did =
+done w s t r ways held shut began entry memory many place same item got is did =
     let at : place ≡ many = cc in
     let journal : s.journal ≡ w.shard.journal = ap (λ u. u.journal) same in record {
       next = at ∙ (is ∙ ap length journal);

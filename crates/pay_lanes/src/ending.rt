@@ -1,5 +1,5 @@
 //! Takes workers and lanes back once their threads have returned.
-ghost use Rattle.std.specs.Prelude.{◌≡◌, ◌<◌, ◌≤◌, ◌⊎◌, [], ◌∷◌, ◌++◌, All, length, map as each, IsTrue, ◌↔◌, IfOk, IfErr, OnOk, OnErr, IsPermutation, vec_items, vec_capacity};
+ghost use Rattle.std.specs.Prelude.{◌≡◌, ◌<◌, ◌≤◌, ◌⊎◌, false, [], ◌∷◌, ◌++◌, All, length, map as each, IsTrue, ◌↔◌, IfOk, IfErr, OnOk, OnErr, IsPermutation, vec_items, vec_capacity};
 ghost use Rattle.std.specs.List.{range_with_len};
 ghost use mathlib.Core.List.{IsPrefix};
 ghost use Rattle.pay_mailbox.specs.Words.{of};
@@ -33,7 +33,7 @@ pub enum EndFault {
 /// What the shards were asked, and what they were not asked any more. Each list has the shards in the order of their workers.
 #[derive(Drop)]
 pub struct Ended<G: Gate> {
-    /// The journal of each shard.
+    /// The journal of each shard: all items, which can be got unless the gates forget.
     pub journals: ArrayVec<Journal, MOST_JOURNALS, Global>,
     /// The entries that each shard did not pop, those of each lane in its order.
     pub left: ArrayVec<Vec<Entry>, MOST_JOURNALS, Global>,
@@ -114,6 +114,7 @@ fn end_worker<F: Fares, G: Gate, R: Wait>(
     requires few { length gates.old.items < MOST_JOURNALS }
     requires has_room { (gates.old.items ≡ []) ⊎ (MOST_JOURNALS ≤ vec_capacity gates.old) }
     ensures journal { result.0.items ≡ worker.shard.journal }
+    ensures whole { G.forgets ≡ false → result.0.memory.forgotten ≡ 0 }
     ensures right { IsRight worker }
     ensures lanes { lanes.new.items ≡ all_exchanged lanes.old.items worker.lanes }
     ensures sent { All (HasLeft worker result.1.items) lanes.old.items }
@@ -153,6 +154,7 @@ pub fn end<F: Fares, G: Gate, R: Wait>(
     ensures missing { OnErr result (AreAll workers.items lanes.items → ⊥) }
     ensures given_back { IfErr result (λ back. (back.1 ≡ workers) × IsPermutation lanes.items back.2.items) }
     ensures journals { IfOk result (λ ended. each (λ j. j.items) ended.journals.items ≡ each (λ w. w.shard.journal) workers.items) }
+    ensures whole { G.forgets ≡ false → IfOk result (λ ended. All (λ j. j.memory.forgotten ≡ 0) ended.journals.items) }
 
     // What stands in the journal of a shard was asked of that shard, and memory was refused only where it may have been.
     ensures asked { OnOk result (AreJournalsFrom (length workers.items) 0 (each (λ w. w.shard.journal) workers.items)) }

@@ -13,6 +13,13 @@ pub trait Gate: Drop {
     /// The bytes that what it keeps lines in had when it began, if they are known. These stay the same.
     ghost began: { Self → Option (List ℕ) };
 
+    /// Whether its worker's shard forgets the items of its journal.
+    ghost forgets: { Bool };
+
+    /// The same. Then the worker has no more than a block of them in memory.
+    fn forgets() -> bool
+        ensures { result ≡ forgets };
+
     /// Is called by the worker of this shard.
     fn before_job<R: Wait>(&mut self, rt: &R, shard: u8, entry: &Entry)
         ensures same { (passed : List Passed) → Holds self.old passed false → Holds self.new passed false }
@@ -25,7 +32,7 @@ pub trait Gate: Drop {
         ensures began { began self.new ≡ began self.old };
 }
 
-/// A gate that is always open.
+/// A gate that is always open, and forgets nothing.
 #[derive(Clone, Copy, Drop)]
 pub struct OpenGate;
 
@@ -35,6 +42,12 @@ impl Gate for OpenGate {
     ghost Holds = { λ _ _ shut. shut ≡ false };
 
     ghost began = { λ _. None };
+
+    ghost forgets = { false };
+
+    fn forgets() -> bool {
+        false
+    }
 
     fn before_job<R: Wait>(&mut self, _rt: &R, _shard: u8, _entry: &Entry) {}
 

@@ -1,12 +1,12 @@
 //! The worker of a shard.
-ghost use Rattle.std.specs.Prelude.{◌≡◌, ℕ, ◌<◌, ◌≤◌, false, IsTrue, [], None, Some, All, length, IfSome, OnSome, IfNone, vec_capacity};
+ghost use Rattle.std.specs.Prelude.{◌≡◌, ℕ, ◌<◌, ◌≤◌, false, IsTrue, [], None, Some, All, length, IfSome, OnSome, OnOk, OnErr, IfNone, vec_capacity};
 ghost use Rattle.pay_mailbox.specs.Words.{HasAll};
-ghost use Rattle.pay_shard.specs.Words.{ShardParts};
+ghost use Rattle.pay_shard.specs.Words.{ShardParts, with_memory};
 ghost use Rattle.pay_lanes.specs.Gates.{all_answered, IsGated};
 ghost use Rattle.pay_lanes.specs.Openings.{IsNewSender};
 ghost use Rattle.pay_lanes.specs.Parts.{sent_at, WasFullAt};
 ghost use Rattle.pay_lanes.specs.Turns.{by_lane, by_shard, HasDone, HasPoppedNone, IsHeldUp};
-ghost use Rattle.pay_lanes.specs.Working.{HasItem, IsOfferable, AreTold, mailboxes, IsSameWorker};
+ghost use Rattle.pay_lanes.specs.Working.{HasItem, IsOfferable, AreTold, mailboxes, IsSameWorker, IsKeptBy};
 ghost use Rattle.pay_lanes.specs.declared.limits.TheConstants.{MOST_JOURNALS};
 ghost use Rattle.pay_lanes.specs.declared.worker.Turn.TheVariants as turns;
 
@@ -17,6 +17,7 @@ use crate::sending::send_at;
 use pay_mailbox::{Inbox, Outbox};
 use pay_rules::Fares;
 use pay_shard::{Answer, Entry, Shard};
+use std::alloc::AllocError;
 use std::marker::Model;
 use std::sync::Wait;
 use std::time::Duration;
@@ -60,7 +61,7 @@ impl<F: Fares, G: Gate> Model for Worker<F, G> {
     ghost use Rattle.std.specs.Prelude.{◌≡◌, ◌≤◌, [], vec_capacity};
     ghost use Rattle.pay_lanes.specs.Gates.{IsGated};
     ghost use Rattle.pay_lanes.specs.Parts.{WorkerParts, worker_code};
-    ghost use Rattle.pay_lanes.specs.Working.{IsWorking};
+    ghost use Rattle.pay_lanes.specs.Working.{IsWorking, IsKeptBy};
     ghost use Rattle.pay_lanes.specs.declared.limits.TheConstants.{MOST_JOURNALS};
 
     ghost Value = { WorkerParts };
@@ -74,7 +75,21 @@ impl<F: Fares, G: Gate> Model for Worker<F, G> {
         × (w.requests.mailbox.capacity ≤ vec_capacity w.left)
         × IsGated (G.Holds w.gate) w.shard w.shut w.lanes.items
         × (w.gates.items ≡ [])
-        × (MOST_JOURNALS ≤ vec_capacity w.gates) };
+        × (MOST_JOURNALS ≤ vec_capacity w.gates)
+        × IsKeptBy G.forgets w.shard };
+}
+
+/// Makes room for one more item of the journal; where the gate forgets, in place of all that there are.
+fn make_room<F: Fares, G: Gate>(shard: &mut Shard<F>) -> Result<(), AllocError>
+    ensures same { shard.new ≡ with_memory shard.old shard.new.memory }
+    ensures ok { OnOk result (0 < shard.new.memory.room) }
+    ensures starved { OnErr result (shard.old.memory.room ≡ 0) }
+    ensures kept { IsKeptBy G.forgets shard.old → IsKeptBy G.forgets shard.new }
+{
+    if G::forgets() && shard.room() == 0 {
+        shard.forget();
+    }
+    shard.reserve(1)
 }
 
 /// Sends an answer to its lane. It comes back only if the lane's queue was full at one moment of the call.
@@ -121,12 +136,13 @@ fn answer<F: Fares, G: Gate, R: Wait>(
     entry: Entry,
     shut: &mut bool,
 ) -> Option<Outgoing>
-    requires room { 0 < shard.old.room }
+    requires room { 0 < shard.old.memory.room }
     requires lane { entry.lane < length lanes.old.items }
     requires told { AreTold shard.old None lanes.old.items }
     requires not_shut { shut.old ≡ false }
     requires gate { G.Holds gate.old (all_answered shard.old) false }
     ensures item { HasItem shard.old entry shard.new }
+    ensures kept { IsKeptBy G.forgets shard.old → IsKeptBy G.forgets shard.new }
     ensures told { AreTold shard.new result lanes.new.items }
     ensures held { IfSome result (IsOfferable lanes.new.items) }
     ensures mailboxes { mailboxes lanes.new.items ≡ mailboxes lanes.old.items }
@@ -154,6 +170,7 @@ impl<F: Fares, G: Gate> Worker<F, G> {
         gates: Vec<G>,
     ) -> Worker<F, G>
         requires shard { shard.journal ≡ [] }
+        requires memory { shard.memory ≡ record { forgotten = 0; room = 0 } }
         requires requests { (requests.got ≡ []) × (requests.made ≡ length lanes.items) }
         requires lanes { All (IsNewSender shard.number) lanes.items }
         requires gate { G.Holds gate [] false }
@@ -173,9 +190,10 @@ impl<F: Fares, G: Gate> Worker<F, G> {
         }
     }
 
-    /// Its shard.
+    /// Its shard. Where its gate forgets, no more than a block of the journal is in memory; else all of it is.
     pub fn shard(&self) -> &Shard<F>
-        ensures { result.now ≡ self.now.shard }
+        ensures value { result.now ≡ self.now.shard }
+        ensures kept { IsKeptBy G.forgets result.now }
     {
         &self.shard
     }
@@ -197,7 +215,7 @@ impl<F: Fares, G: Gate> Worker<F, G> {
         // That all was popped of lanes that are back binds the body to look; while none is back, it tells a caller nothing.
         ensures idle { result ≡ turns.Idle → HasPoppedNone self.old self.new × HasAll by_lane self.old.requests }
         ensures held { result ≡ turns.Held → (self.new ≡ self.old) × IsHeldUp self.old }
-        ensures starved { result ≡ turns.Starved → HasPoppedNone self.old self.new × (self.old.shard.room ≡ 0) }
+        ensures starved { result ≡ turns.Starved → HasPoppedNone self.old self.new × (self.old.shard.memory.room ≡ 0) }
         ensures shut { result ≡ turns.Shut → (self.new ≡ self.old) × IsTrue self.old.shut }
         ensures stays_shut { IsTrue self.old.shut → result ≡ turns.Shut }
     {
@@ -217,7 +235,7 @@ impl<F: Fares, G: Gate> Worker<F, G> {
         if held.is_some() {
             return Turn::Held;
         }
-        if shard.reserve(1).is_err() {
+        if make_room::<F, G>(shard).is_err() {
             return Turn::Starved;
         }
         let Some(entry) = requests.receive(rt) else {

@@ -208,6 +208,7 @@ pub fn shut<F: Fares, G: Gate, R: Threads + Wait>(
     ensures ended { IfOk result (λ ended. HasEnded office lanes.items (each (λ j. j.items) ended.journals.items) (each vec_items ended.left.items)) }
     ensures gates { IfOk result (λ ended. HaveLetPass G.Holds office lanes.items (each (λ j. j.items) ended.journals.items) ended.gates.items) }
     ensures began { IfOk result (λ ended. each G.began ended.gates.items ≡ began_of office) }
+    ensures whole { G.forgets ≡ false → IfOk result (λ ended. All (λ j. j.memory.forgotten ≡ 0) ended.journals.items) }
 {
     let mut lanes = lanes;
     if !put_in_order(&mut lanes, office.lanes) {

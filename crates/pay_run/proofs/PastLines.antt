@@ -147,7 +147,7 @@ handed_run by_line zone editions first desk requests events same no_base no_jour
     let b : IsAfter [] desk.shard = record { back = desk.shard.journal; whole = refl; in_place = placed } in
     let s = subst (λ l. IsSession zone 1 (MaySometimeRefuse desk_parts stood) (MaySometimeBeLate desk_parts stood) ClosesNothing (sides_from l desk.shard tt tt) requests events) no_journal handed in
     let r = runs (MaySometimeRefuse desk_parts stood) (MaySometimeBeLate desk_parts stood) ⊥ ClosesNothing (λ till. ⊤) (λ till ledger. ledger ≡ None) (replay_plain stood) by_line zone [] desk.shard tt tt None requests events b tt refl s in
-    let begun : machine_on zone (record { number = desk.shard.number; editions = desk.shard.editions; base = desk.shard.base; journal = []; room = desk.shard.room }) None ≡ new_machine zone editions None =
+    let begun : machine_on zone (record { number = desk.shard.number; editions = desk.shard.editions; base = desk.shard.base; journal = []; memory = desk.shard.memory }) None ≡ new_machine zone editions None =
     (λ i. record { zone = zone; editions = ((ap (λ (s : Standing (FareEditions × State)). s.origin.0) stands) ∙ same) i; accounts = ((ap (λ (s : Standing (FareEditions × State)). s.origin.1) stands) ∙ no_base) i; ledger = None }) in
     record {
       marks = r.marks;

@@ -64,13 +64,13 @@ module _ {K : Type 0} {HasFailed : K → Type 0} {zone : TimeZone} {editions : F
   sides = sides_from r.begun.seen.shard.journal r.now.seen.shard r.before r.after
 
   -- its shard, which is what is seen of it
-  seen_all : (shard : ShardParts) (more : List Item) → shard ≡ with_items r.now.seen.shard more shard.room → more ≡ []
-      → shard ≡ record { number = r.now.seen.shard.number; editions = r.now.seen.shard.editions; base = r.now.seen.shard.base; journal = r.now.seen.shard.journal; room = shard.room }
+  seen_all : (shard : ShardParts) (more : List Item) → shard ≡ with_items r.now.seen.shard more shard.memory → more ≡ []
+      → shard ≡ record { number = r.now.seen.shard.number; editions = r.now.seen.shard.editions; base = r.now.seen.shard.base; journal = r.now.seen.shard.journal; memory = shard.memory }
   seen_all shard more all none =
-      all ∙ ap (λ l. with_items r.now.seen.shard l shard.room) none
-      ∙ ap (λ l. record { number = r.now.seen.shard.number; editions = r.now.seen.shard.editions; base = r.now.seen.shard.base; journal = l; room = shard.room }) (append-nil r.now.seen.shard.journal)
+      all ∙ ap (λ l. with_items r.now.seen.shard l shard.memory) none
+      ∙ ap (λ l. record { number = r.now.seen.shard.number; editions = r.now.seen.shard.editions; base = r.now.seen.shard.base; journal = l; memory = shard.memory }) (append-nil r.now.seen.shard.journal)
 
-  tells : (input : List ℕ) (left written new : Option (List ℕ)) (done : Done) (shard : ShardParts) (account day week : ℕ) (told : List Line) → ((more : List Item) × (shard ≡ with_items r.now.seen.shard more shard.room) × (r.now.stuck ≡ false → more ≡ [])) → r.now.stuck ≡ false
+  tells : (input : List ℕ) (left written new : Option (List ℕ)) (done : Done) (shard : ShardParts) (account day week : ℕ) (told : List Line) → ((more : List Item) × (shard ≡ with_items r.now.seen.shard more shard.memory) × (r.now.stuck ≡ false → more ≡ [])) → r.now.stuck ≡ false
       → done.lacked_memory ≡ false → week ≡ monday day → told ≡ week_lines shard.editions (accepted_of (state_now shard) account) week → IsEnded input left written new done sides → TellsWeek (machine_past zone editions past) input left account day told
   tells input left written new done shard account day week told all free ample its says h =
       let e = subst (IsEnded input left written new done) (same_sides (CanFail HasFailed) r.begun r.now r.now r.desk r.held r.before r.after r.is refl origin) h in
@@ -86,7 +86,7 @@ module _ {K : Type 0} {HasFailed : K → Type 0} {zone : TimeZone} {editions : F
         unread = e.unread;
       }
 
-  pub week_told : (known left written new : Option (List ℕ)) (account day : ℕ) {week : ℕ} {told : List Line} (done : Done) (shard : ShardParts) → ((more : List Item) × (shard ≡ with_items r.now.seen.shard more shard.room) × (r.now.stuck ≡ false → more ≡ [])) → r.now.stuck ≡ false
+  pub week_told : (known left written new : Option (List ℕ)) (account day : ℕ) {week : ℕ} {told : List Line} (done : Done) (shard : ShardParts) → ((more : List Item) × (shard ≡ with_items r.now.seen.shard more shard.memory) × (r.now.stuck ≡ false → more ≡ [])) → r.now.stuck ≡ false
       → done.lacked_memory ≡ false → week ≡ monday day → told ≡ week_lines shard.editions (accepted_of (state_now shard) account) week → IfSome known (λ input. IsEnded input left written new done sides) → WeekTold zone editions past (known, left) (account, day) told
   week_told known left written new account day {week} {told} done shard all free ample its says h =
       (r.gives.accepted, IfSome_then known h (λ input e. tells input left written new done shard account day week told all free ample its says e))

@@ -17,7 +17,7 @@ use std::sync::Wait;
 
 /// A gate that has a keeper keep the line of each tap and each correction that is newly accepted, before the lane can have the
 /// answer. The commands of one lane are spared: those are kept already. What could not be kept does not pass, and nothing after
-/// it. In a contract it is the bytes that the keeper held when it began, those that it holds, and whether something could not
+/// it. What passed is forgotten. In a contract it is the bytes that the keeper held when it began, those that it holds, and whether something could not
 /// be kept.
 #[derive(Drop)]
 pub struct KeepingGate<K: Keeper> {
@@ -91,6 +91,12 @@ impl<K: Keeper> Gate for KeepingGate<K> {
     ghost Holds = { HoldsPassed K.holds K.HasFailed K.IsSettled };
 
     ghost began = { λ g. g.held_first };
+
+    ghost forgets = { true };
+
+    fn forgets() -> bool {
+        true
+    }
 
     fn before_job<R: Wait>(&mut self, _rt: &R, _shard: u8, _entry: &Entry) {}
 

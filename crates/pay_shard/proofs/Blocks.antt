@@ -37,20 +37,11 @@ at_most : (many : ℕ) (blocks : List (List Item)) → AreFilled many blocks →
 at_most many [] are = omega arith
 at_most many (block ∷ blocks) are = let rest : many - 1024 ≤ 1024 * length blocks = at_most (many - 1024) blocks are.1 in omega arith
 
-pub many_in : (many : ℕ) (blocks : List (List Item)) → AreBlocks many blocks → length (all_in blocks) ≡ many
+pub many_in : {before : ℕ} (many : ℕ) (blocks : List (List Item)) → AreBlocks before many blocks → length (all_in blocks) ≡ many
 many_in many blocks are = length_all many blocks are.filled
 
-pub no_more : (many : ℕ) (blocks : List (List Item)) → AreBlocks many blocks → many ≤ 1024 * length blocks
+pub no_more : {before : ℕ} (many : ℕ) (blocks : List (List Item)) → AreBlocks before many blocks → many ≤ 1024 * length blocks
 no_more many blocks are = at_most many blocks are.filled
-
-pub is_none : (many : ℕ) (blocks : List (List Item)) (items : List Item) → AreBlocks many blocks → all_in blocks ≡ items → (IsTrue (nat_eq many 0) → items ≡ []) × (items ≡ [] → IsTrue (nat_eq many 0))
-is_none many blocks items are is =
-    let all : length items ≡ many = ap length (sym is) ∙ length_all many blocks are.filled in
-    ((λ none. no_items items all (eqb-true many 0 none)), (λ none. eq-eqb many 0 (sym all ∙ ap length none)))
-  where
-    no_items : (items : List Item) → length items ≡ many → many ≡ 0 → items ≡ []
-    no_items [] all none = refl
-    no_items (item ∷ items) all none = absurd (omega arith)
 
 -- ---- one empty block more
 
@@ -62,14 +53,14 @@ pub all_still : (blocks : List (List Item)) → all_in (blocks ++ [] ∷ []) ≡
 all_still [] = refl
 all_still (block ∷ blocks) = ap (λ (l : List Item). block ++ l) (all_still blocks)
 
-still_blocks : (many : ℕ) (blocks : List (List Item)) → AreBlocks many blocks → length blocks < 2 ^ 54 - 1 → AreBlocks many (blocks ++ [] ∷ [])
-still_blocks many blocks are few =
+still_blocks : {before : ℕ} (many : ℕ) (blocks : List (List Item)) → AreBlocks before many blocks → length blocks < (2 ^ 64 - 1 - before) / 1024 → AreBlocks before many (blocks ++ [] ∷ [])
+still_blocks {before} many blocks are few =
     let longer : length (blocks ++ [] ∷ []) ≡ length blocks + 1 = length-append blocks ([] ∷ []) in
     record { filled = filled_still many blocks are.filled; few = omega arith }
 
-pub blocks_still : (many : ℕ) (blocks after : List (List Item)) (block : List Item) → AreBlocks many blocks → length blocks < 2 ^ 54 - 1 → block ≡ [] → after ≡ blocks ++ block ∷ [] → AreBlocks many after
-blocks_still many blocks after block are few empty is =
-    subst (AreBlocks many) (sym (is ∙ ap (λ (b : List Item). blocks ++ b ∷ []) empty)) (still_blocks many blocks are few)
+pub blocks_still : {before : ℕ} (many : ℕ) (blocks after : List (List Item)) (block : List Item) → AreBlocks before many blocks → length blocks < (2 ^ 64 - 1 - before) / 1024 → block ≡ [] → after ≡ blocks ++ block ∷ [] → AreBlocks before many after
+blocks_still {before} many blocks after block are few empty is =
+    subst (AreBlocks before many) (sym (is ∙ ap (λ (b : List Item). blocks ++ b ∷ []) empty)) (still_blocks many blocks are few)
 
 pub items_still : (blocks after : List (List Item)) (block : List Item) → block ≡ [] → after ≡ blocks ++ block ∷ [] → all_in after ≡ all_in blocks
 items_still blocks after block empty is = ap all_in (is ∙ ap (λ (b : List Item). blocks ++ b ∷ []) empty) ∙ all_still blocks
@@ -123,21 +114,21 @@ module _ (item : Item) where
       ∙ sym (append_assoc first (all_in blocks) (item ∷ []))
 
   -- the block at the place of the next item has room, and once it has that item the blocks are filled still
-  pub has_room : (many place : ℕ) (blocks : List (List Item)) (block : List Item) → AreBlocks many blocks → many < 1024 * place + 1024 → place < length blocks → block ≡ get_or blocks place block → length block < 1024
+  pub has_room : {before : ℕ} (many place : ℕ) (blocks : List (List Item)) (block : List Item) → AreBlocks before many blocks → many < 1024 * place + 1024 → place < length blocks → block ≡ get_or blocks place block → length block < 1024
   has_room many place blocks block are to within is =
       let size = size_at many place blocks block are.filled within is in
       let few : many - 1024 * place < 1024 = omega arith in
       let least = less (many - 1024 * place) few in
       omega arith
 
-  pub blocks_more : (many place : ℕ) (blocks : List (List Item)) (block after : List Item) → AreBlocks many blocks → 1024 * place ≤ many → many < 1024 * place + 1024 → place < length blocks → block ≡ get_or blocks place block
-      → after ≡ block ++ item ∷ [] → AreBlocks (many + 1) (set blocks place after)
+  pub blocks_more : {before : ℕ} (many place : ℕ) (blocks : List (List Item)) (block after : List Item) → AreBlocks before many blocks → 1024 * place ≤ many → many < 1024 * place + 1024 → place < length blocks → block ≡ get_or blocks place block
+      → after ≡ block ++ item ∷ [] → AreBlocks before (many + 1) (set blocks place after)
   blocks_more many place blocks block after are from to within is more_now = record {
     filled = subst (λ b. AreFilled (many + 1) (set blocks place b)) (sym more_now) (filled_more many place blocks block are.filled from to within is);
     few = rw (length-set blocks place after) are.few;
   }
 
-  pub items_more : (many place : ℕ) (blocks : List (List Item)) (block after : List Item) → AreBlocks many blocks → many < 1024 * place + 1024 → place < length blocks → block ≡ get_or blocks place block
+  pub items_more : {before : ℕ} (many place : ℕ) (blocks : List (List Item)) (block after : List Item) → AreBlocks before many blocks → many < 1024 * place + 1024 → place < length blocks → block ≡ get_or blocks place block
       → after ≡ block ++ item ∷ [] → all_in (set blocks place after) ≡ all_in blocks ++ item ∷ []
   items_more many place blocks block after are to within is more_now =
       ap (λ (b : List Item). all_in (set blocks place b)) more_now ∙ all_more many place blocks block are.filled to within is
@@ -183,7 +174,7 @@ got_within many (suc place) offset (first ∷ blocks) block are few within is =
     ap (slice_get (first ++ all_in blocks)) at ∙ right_of first (all_in blocks) (1024 * place + offset)
     ∙ got_within (many - 1024) place offset blocks block are.1 few (omega arith) is
 
-got_here : (many place offset : ℕ) (blocks : List (List Item)) (block : List Item) → AreBlocks many blocks → offset < 1024 → slice_get blocks place ≡ Some block
+got_here : {before : ℕ} (many place offset : ℕ) (blocks : List (List Item)) (block : List Item) → AreBlocks before many blocks → offset < 1024 → slice_get blocks place ≡ Some block
     → slice_get block offset ≡ slice_get (all_in blocks) (1024 * place + offset)
 got_here many place offset blocks block are few is = elim (cases_lt (1024 * place + offset) many) [
   | inl within ↦ sym (got_within many place offset blocks block are.filled few within is)
@@ -196,14 +187,14 @@ got_here many place offset blocks block are few is = elim (cases_lt (1024 * plac
 
 -- by the number of its block, and its place there
 
-pub got : (many place : ℕ) (blocks lent : List (List Item)) (block : List Item) (item : Option Item) (items : List Item) → AreBlocks many blocks → lent ≡ blocks → Some block ≡ slice_get lent (place / 1024) → item ≡ slice_get block (place % 1024)
+pub got : {before : ℕ} (many place : ℕ) (blocks lent : List (List Item)) (block : List Item) (item : Option Item) (items : List Item) → AreBlocks before many blocks → lent ≡ blocks → Some block ≡ slice_get lent (place / 1024) → item ≡ slice_get block (place % 1024)
     → all_in blocks ≡ items → item ≡ slice_get items place
 got many place blocks lent block item items are same there is all =
     let at : 1024 * (place / 1024) + place % 1024 ≡ place = omega arith in
     let here : slice_get blocks (place / 1024) ≡ Some block = sym (there ∙ ap (λ l. slice_get l (place / 1024)) same) in
     is ∙ got_here many (place / 1024) (place % 1024) blocks block are (omega arith) here ∙ (λ i. slice_get (all i) (at i))
 
-pub got_none : (many place : ℕ) (blocks lent : List (List Item)) (item : Option Item) (items : List Item) → AreBlocks many blocks → lent ≡ blocks → None ≡ slice_get lent (place / 1024) → item ≡ None
+pub got_none : {before : ℕ} (many place : ℕ) (blocks lent : List (List Item)) (item : Option Item) (items : List Item) → AreBlocks before many blocks → lent ≡ blocks → None ≡ slice_get lent (place / 1024) → item ≡ None
     → all_in blocks ≡ items → item ≡ slice_get items place
 got_none many place blocks lent item items are same there is all =
     let many_are = length_all many blocks are.filled in
@@ -215,3 +206,24 @@ got_none many place blocks lent item items are same there is all =
     from [] number is = omega arith
     from (first ∷ blocks) zero is = absurd (cc)
     from (first ∷ blocks) (suc number) is = let rest = from blocks number is in omega arith
+
+-- ---- what was forgotten
+
+pub got_after : (past kept items : List Item) (forgotten place : ℕ) (item : Option Item) → length past ≡ forgotten → forgotten ≤ place → item ≡ slice_get kept (place - forgotten) → past ++ kept ≡ items → item ≡ slice_get items place
+got_after past kept items forgotten place item many after is all =
+    let at : length past + (place - forgotten) ≡ place = omega arith in
+    is ∙ sym (right_of past kept (place - forgotten)) ∙ (λ i. slice_get (all i) (at i))
+
+nothing_after : (items : List Item) → items ++ [] ≡ items
+nothing_after [] = refl
+nothing_after (item ∷ items) = ap (λ (l : List Item). item ∷ l) (nothing_after items)
+
+pub many_past : {before : ℕ} (past : List Item) (many : ℕ) (blocks : List (List Item)) → length past ≡ before → AreBlocks before many blocks → length (past ++ all_in blocks) ≡ before + many
+many_past past many blocks is are = let all = length_all many blocks are.filled in let both = length-append past (all_in blocks) in omega arith
+
+-- all is in the past then
+pub none_left : {before : ℕ} (many : ℕ) (blocks : List (List Item)) → AreBlocks before many blocks → AreBlocks (before + many) 0 []
+none_left many blocks are = let most = at_most many blocks are.filled in let few = are.few in record { filled = refl; few = omega arith }
+
+pub all_past_still : (past items blocks after : List Item) → past ++ blocks ≡ items → after ≡ [] → (past ++ blocks) ++ after ≡ items
+all_past_still past items blocks after is none = ap (λ l. (past ++ blocks) ++ l) none ∙ nothing_after (past ++ blocks) ∙ is

@@ -25,7 +25,7 @@ same_answer shard place editions state [] more k low = absurd (omega (arith, low
 same_answer shard place editions state (first ∷ items) more zero low = refl
 same_answer shard place editions state (first ∷ items) more (suc k) low = same_answer shard (place + 1) editions (item_step editions state first).after items more k (omega (arith, low))
 
-pub front_has_reply : (front whole : ShardParts) (more : List Item) (ticket : ℕ) (reply : Reply) → whole ≡ with_items front more whole.room → AreInPlace 0 front.journal → ticket < length front.journal
+pub front_has_reply : (front whole : ShardParts) (more : List Item) (ticket : ℕ) (reply : Reply) → whole ≡ with_items front more whole.memory → AreInPlace 0 front.journal → ticket < length front.journal
     → IsReplyTo ticket (commands_of whole.journal) (transcript_of whole) reply → IsReplyTo ticket (commands_of front.journal) (transcript_of front) reply
 front_has_reply front whole more ticket reply is placed low given =
     let same = same_answer front.number 0 front.editions front.base front.journal more ticket low in

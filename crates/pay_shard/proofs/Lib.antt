@@ -10,5 +10,6 @@ pub mod Journals
 pub mod LocalDesks
 pub mod Merging
 pub mod NewAlone
+pub mod Pasts
 pub mod Places
 pub mod PutThenGet

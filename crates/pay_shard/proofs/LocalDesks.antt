@@ -11,7 +11,8 @@ use Rattle.pay_shard.specs.Desks.{IsAfterAll, IsNoneOf, without, command_under, 
 use Rattle.pay_shard.specs.LocalParts.{commands_of, transcript_of, AreInPlace, AreBelow, IsTaken, tickets_of, AreDistinct, AreOfRun, answers_without, IsLocal}
 use Rattle.pay_shard.specs.Machine.{item_step}
 use Rattle.pay_shard.specs.Runs.{answer_at, answers_from}
-use Rattle.pay_shard.specs.ShardParts.{ShardParts, answers_given, next_answer, item_of, with_item, with_room}
+use Rattle.pay_shard.specs.JournalParts.{JournalMemory}
+use Rattle.pay_shard.specs.ShardParts.{ShardParts, answers_given, next_answer, item_of, with_item, with_memory}
 use Rattle.pay_rules.specs.State.{State}
 use Rattle.pay_shard.specs.declared.item.Entry.{Entry}
 use Rattle.pay_shard.specs.declared.item.Item.{Item}
@@ -223,15 +224,15 @@ within [] place a e = absurd (cc)
 within (x ∷ list) zero a e = omega arith
 within (x ∷ list) (suc place) a e = let rest = within list place a e in omega (arith, rest)
 
-answers_with : (s : ShardParts) (item : Item) (room : ℕ) → answers_given (with_item s item room) ≡ answers_given s ++ next_answer s item ∷ []
-answers_with s item room = answers_more s.number s.editions s.base s.journal item
+answers_with : (s : ShardParts) (item : Item) (memory : JournalMemory) → answers_given (with_item s item memory) ≡ answers_given s ++ next_answer s item ∷ []
+answers_with s item memory = answers_more s.number s.editions s.base s.journal item
 
-answers_kept : (s : ShardParts) (item : Item) (room : ℕ) → NothingIsLost (transcript_of s) (transcript_of (with_item s item room))
-answers_kept s item room ticket a e = ap (λ l. slice_get l ticket) (answers_with s item room) ∙ still_there (answers_given s) (next_answer s item ∷ []) ticket a e
+answers_kept : (s : ShardParts) (item : Item) (memory : JournalMemory) → NothingIsLost (transcript_of s) (transcript_of (with_item s item memory))
+answers_kept s item memory ticket a e = ap (λ l. slice_get l ticket) (answers_with s item memory) ∙ still_there (answers_given s) (next_answer s item ∷ []) ticket a e
 
-next_stands : (s : ShardParts) (item : Item) (room : ℕ) → transcript_of (with_item s item room) (length s.journal) ≡ Some (next_answer s item)
-next_stands s item room =
-    (λ i. slice_get (answers_with s item room i) (sym (as_many_answers s.number 0 s.editions s.base s.journal) i)) ∙ the_last (answers_given s) (next_answer s item)
+next_stands : (s : ShardParts) (item : Item) (memory : JournalMemory) → transcript_of (with_item s item memory) (length s.journal) ≡ Some (next_answer s item)
+next_stands s item memory =
+    (λ i. slice_get (answers_with s item memory i) (sym (as_many_answers s.number 0 s.editions s.base s.journal) i)) ∙ the_last (answers_given s) (next_answer s item)
 
 in_place_more : (place : ℕ) (items : List Item) (item : Item) → AreInPlace place items → item.entry.lane ≡ 0 → item.entry.ticket ≡ place + length items → AreInPlace place (items ++ item ∷ [])
 in_place_more place [] item are lane ticket = ((lane, omega (arith, ticket)), tt)
@@ -282,36 +283,36 @@ all_places s (a ∷ answers) of =
     let many = as_many_answers s.number 0 s.editions s.base s.journal in
     (omega (arith, below, many), all_places s answers of.1)
 
-of_run_more : (s : ShardParts) (item : Item) (room : ℕ) (answers : List Answer) → AreOfRun s answers → AreOfRun (with_item s item room) answers
-of_run_more s item room [] of = tt
-of_run_more s item room (a ∷ answers) of = (answers_kept s item room a.ticket a of.0, of_run_more s item room answers of.1)
+of_run_more : (s : ShardParts) (item : Item) (memory : JournalMemory) (answers : List Answer) → AreOfRun s answers → AreOfRun (with_item s item memory) answers
+of_run_more s item memory [] of = tt
+of_run_more s item memory (a ∷ answers) of = (answers_kept s item memory a.ticket a of.0, of_run_more s item memory answers of.1)
 
-local_more : (s : ShardParts) (answers : List Answer) (entry : Entry) (mark : Bool) (room : ℕ) → IsLocal s answers → entry.lane ≡ 0 → entry.ticket ≡ length s.journal
-    → IsLocal (with_item s (item_of entry mark) room) (answers ++ next_answer s (item_of entry mark) ∷ [])
-local_more s answers entry mark room is lane ticket =
+local_more : (s : ShardParts) (answers : List Answer) (entry : Entry) (mark : Bool) (memory : JournalMemory) → memory.forgotten ≡ 0 → IsLocal s answers → entry.lane ≡ 0 → entry.ticket ≡ length s.journal
+    → IsLocal (with_item s (item_of entry mark) memory) (answers ++ next_answer s (item_of entry mark) ∷ [])
+local_more s answers entry mark memory whole is lane ticket =
     let item = item_of entry mark in
     let answer = next_answer s item in
-    let its = ap (transcript_of (with_item s item room)) ticket ∙ next_stands s item room in (
-      (is.0.0, in_place_more 0 s.journal item is.0.1 lane (omega (arith, ticket))),
+    let its = ap (transcript_of (with_item s item memory)) ticket ∙ next_stands s item memory in (
+      (is.0.0, whole, in_place_more 0 s.journal item is.0.2 lane (omega (arith, ticket))),
       (
-        all_more (λ (a : Answer). transcript_of (with_item s item room) a.ticket ≡ Some a) answers answer (of_run_more s item room answers is.1.0) its,
+        all_more (λ (a : Answer). transcript_of (with_item s item memory) a.ticket ≡ Some a) answers answer (of_run_more s item memory answers is.1.0) its,
         subst AreDistinct (sym (map-append (λ (a : Answer). a.ticket) answers (answer ∷ []))) (distinct_more (tickets_of answers) entry.ticket is.1.1 (all_new s entry.ticket answers is.1.0 ticket)),
       ),
     )
 
 -- ---- a command was put
 
-module _ (s reserved after : ShardParts) (entry : Entry) (mark : Bool) (room later_room : ℕ) (same : reserved ≡ with_room s room) (applied : after ≡ with_item reserved (item_of entry mark) later_room) where
-  is_more : after ≡ with_item s (item_of entry mark) later_room
-  is_more = applied ∙ ap (λ t. with_item t (item_of entry mark) later_room) same
+module _ (s reserved after : ShardParts) (entry : Entry) (mark : Bool) (memory later_memory : JournalMemory) (same : reserved ≡ with_memory s memory) (applied : after ≡ with_item reserved (item_of entry mark) later_memory) where
+  is_more : after ≡ with_item s (item_of entry mark) later_memory
+  is_more = applied ∙ ap (λ t. with_item t (item_of entry mark) later_memory) same
 
-  pub local_after_put : (answers now later : List Answer) (answer : Answer) → IsLocal s answers → entry.lane ≡ 0 → entry.ticket ≡ length reserved.journal
+  pub local_after_put : (answers now later : List Answer) (answer : Answer) → later_memory.forgotten ≡ s.memory.forgotten → IsLocal s answers → entry.lane ≡ 0 → entry.ticket ≡ length reserved.journal
       → answer ≡ next_answer reserved (item_of entry mark) → now ≡ answers → later ≡ now ++ answer ∷ [] → IsLocal after later
-  local_after_put answers now later answer is lane ticket answered kept added =
+  local_after_put answers now later answer kept_whole is lane ticket answered kept added =
       let many = ap (λ (t : ShardParts). length t.journal) same in
       let as_kept : later ≡ answers ++ next_answer s (item_of entry mark) ∷ [] = added ∙ (λ i. kept i ++ (answered ∙ ap (λ t. next_answer t (item_of entry mark)) same) i ∷ []) in
-      let more = local_more s answers entry mark later_room is lane (ticket ∙ many) in
-      subst (λ t. IsLocal t later) (sym is_more) (subst (IsLocal (with_item s (item_of entry mark) later_room)) (sym as_kept) more)
+      let more = local_more s answers entry mark later_memory (kept_whole ∙ is.0.1) is lane (ticket ∙ many) in
+      subst (λ t. IsLocal t later) (sym is_more) (subst (IsLocal (with_item s (item_of entry mark) later_memory)) (sym as_kept) more)
 
   pub taken_by_put : entry.lane ≡ 0 → entry.ticket ≡ length reserved.journal → (ticket : ℕ) → ticket ≡ entry.ticket → IsTaken ticket entry.command s after
   taken_by_put lane next ticket its =
@@ -322,15 +323,15 @@ module _ (s reserved after : ShardParts) (entry : Entry) (mark : Bool) (room lat
         item = item;
         is_entry = λ i. record { lane = lane i; ticket = sym its i; command = entry.command };
         is_next = place;
-        added = is_more ∙ ap (with_item s item) (sym (ap (λ (t : ShardParts). t.room) is_more));
-        answered = (λ i. transcript_of (is_more i) (place i)) ∙ next_stands s item later_room;
+        added = is_more ∙ ap (with_item s item) (sym (ap (λ (t : ShardParts). t.memory) is_more));
+        answered = (λ i. transcript_of (is_more i) (place i)) ∙ next_stands s item later_memory;
       }
 
   pub answers_after_put : NothingIsLost (transcript_of s) (transcript_of after)
-  answers_after_put ticket a e = ap (λ t. transcript_of t ticket) is_more ∙ answers_kept s (item_of entry mark) later_room ticket a e
+  answers_after_put ticket a e = ap (λ t. transcript_of t ticket) is_more ∙ answers_kept s (item_of entry mark) later_memory ticket a e
 
 -- ---- a desk begins
 
-pub local_new : (s : ShardParts) (answers : List Answer) → s.number ≡ 0 → s.journal ≡ [] → answers ≡ [] → IsLocal s answers
+pub local_new : (s : ShardParts) (answers : List Answer) → s.number ≡ 0 → s.memory.forgotten ≡ 0 → s.journal ≡ [] → answers ≡ [] → IsLocal s answers
 unfolding IsDistinct
-local_new s answers number journal none = subst (IsLocal s) (sym none) ((number, subst (AreInPlace 0) (sym journal) tt), (tt, tt))
+local_new s answers number whole journal none = subst (IsLocal s) (sym none) ((number, whole, subst (AreInPlace 0) (sym journal) tt), (tt, tt))

@@ -53,7 +53,7 @@ ReplayGoesOn = (editions : FareEditions) (base : State) (items more : List Item)
 
 -- A reply to one of the first tickets of a desk is that of a desk which has the first items alone.
 abbrev pub FrontHasReply : Type 0
-FrontHasReply = (front whole : ShardParts) (more : List Item) (ticket : ℕ) (reply : Reply) → whole ≡ with_items front more whole.room → AreInPlace 0 front.journal → ticket < length front.journal
+FrontHasReply = (front whole : ShardParts) (more : List Item) (ticket : ℕ) (reply : Reply) → whole ≡ with_items front more whole.memory → AreInPlace 0 front.journal → ticket < length front.journal
     → IsReplyTo ticket (commands_of whole.journal) (transcript_of whole) reply → IsReplyTo ticket (commands_of front.journal) (transcript_of front) reply
 
 -- ---- order

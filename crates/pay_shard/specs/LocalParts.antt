@@ -52,7 +52,7 @@ pub record IsTaken (ticket : ℕ) (command : Asked) (before after : ShardParts) 
   pub item : Item
   pub is_entry : item.entry ≡ record { lane = 0; ticket = ticket; command = command }
   pub is_next : ticket ≡ length before.journal
-  pub added : after ≡ with_item before item after.room
+  pub added : after ≡ with_item before item after.memory
   pub answered : transcript_of after ticket ≡ Some (next_answer before item)
 
 -- the tickets of answers
@@ -72,6 +72,6 @@ abbrev pub answers_without : ℕ → List Answer → List Answer
 answers_without ticket [] = []
 answers_without ticket (answer ∷ answers) = cond (answer.ticket == ticket) answers (answer ∷ answers_without ticket answers)
 
--- what such a desk may keep: a shard of number 0, and answers to some of its tickets
+-- what such a desk may keep: a shard of number 0 that has forgotten nothing, and answers to some of its tickets
 abbrev pub IsLocal : ShardParts → List Answer → Type 0
-IsLocal s answers = ((s.number ≡ 0) × AreInPlace 0 s.journal) × (AreOfRun s answers × AreDistinct (tickets_of answers))
+IsLocal s answers = ((s.number ≡ 0) × (s.memory.forgotten ≡ 0) × AreInPlace 0 s.journal) × (AreOfRun s answers × AreDistinct (tickets_of answers))

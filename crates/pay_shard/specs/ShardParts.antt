@@ -5,6 +5,7 @@ use Rattle.pay_tables.specs.EditionCodes.{fare_editions_code}
 use Rattle.pay_tables.specs.Words.{FareEditions}
 use Rattle.pay_rules.specs.State.{State, state_code}
 use Rattle.pay_shard.specs.Runs.{replay, answer_at, answers}
+use Rattle.pay_shard.specs.JournalParts.{JournalMemory, journal_memory_code}
 use Rattle.pay_shard.specs.contracts.item.Item as item
 use Rattle.pay_shard.specs.declared.item.Item.{Item}
 use Rattle.pay_shard.specs.declared.item.Entry.{Entry}
@@ -18,14 +19,14 @@ pub record ShardParts : Type 0 where
   -- what the accounts had accepted when the journal began
   pub base : State
   pub journal : List Item
-  -- how many more items the journal takes without memory
-  pub room : ℕ
+  -- what of the journal is in memory
+  pub memory : JournalMemory
 
 -- it is stored as the tuple of these
 abbrev pub shard_code : Coded ShardParts
 shard_code =
-    code_by (ℕ × (FareEditions × (State × (List Item × ℕ)))) (coded× coded_ℕ (coded× fare_editions_code (coded× state_code (coded× (coded_list item.the_row.coded) coded_ℕ))))
-    (λ s. (s.number, (s.editions, (s.base, (s.journal, s.room))))) (λ p. record { number = p.0; editions = p.1.0; base = p.1.1.0; journal = p.1.1.1.0; room = p.1.1.1.1 }) (λ _. refl)
+    code_by (ℕ × (FareEditions × (State × (List Item × JournalMemory)))) (coded× coded_ℕ (coded× fare_editions_code (coded× state_code (coded× (coded_list item.the_row.coded) journal_memory_code))))
+    (λ s. (s.number, (s.editions, (s.base, (s.journal, s.memory))))) (λ p. record { number = p.0; editions = p.1.0; base = p.1.1.0; journal = p.1.1.1.0; memory = p.1.1.1.1 }) (λ _. refl)
 
 -- what the accounts have accepted: the replay of the journal
 abbrev pub state_now : ShardParts → State
@@ -43,14 +44,14 @@ next_answer s item = answer_at s.number (length s.journal) s.editions (state_now
 abbrev pub item_of : Entry → Bool → Item
 item_of entry refused_memory = record { entry = entry; refused_memory = refused_memory }
 
--- it with more items, and so much room
-abbrev pub with_items : ShardParts → List Item → ℕ → ShardParts
-with_items s items room = record { number = s.number; editions = s.editions; base = s.base; journal = s.journal ++ items; room = room }
+-- it with more items, and with this in memory
+abbrev pub with_items : ShardParts → List Item → JournalMemory → ShardParts
+with_items s items memory = record { number = s.number; editions = s.editions; base = s.base; journal = s.journal ++ items; memory = memory }
 
 -- with one more
-abbrev pub with_item : ShardParts → Item → ℕ → ShardParts
-with_item s item room = record { number = s.number; editions = s.editions; base = s.base; journal = s.journal ++ item ∷ []; room = room }
+abbrev pub with_item : ShardParts → Item → JournalMemory → ShardParts
+with_item s item memory = record { number = s.number; editions = s.editions; base = s.base; journal = s.journal ++ item ∷ []; memory = memory }
 
--- and with so much room
-abbrev pub with_room : ShardParts → ℕ → ShardParts
-with_room s room = record { number = s.number; editions = s.editions; base = s.base; journal = s.journal; room = room }
+-- and with this in memory alone
+abbrev pub with_memory : ShardParts → JournalMemory → ShardParts
+with_memory s memory = record { number = s.number; editions = s.editions; base = s.base; journal = s.journal; memory = memory }

@@ -1,16 +1,14 @@
 ghost use Rattle.std.specs.Prelude.{◌≡◌, ◌<◌, [], ◌∷◌, ◌++◌, length, IfOk, slice_get};
-ghost use Rattle.pay_shard.specs.declared.block.TheConstants.{BLOCK_ITEMS};
+ghost use Rattle.pay_shard.specs.declared.limits.TheConstants.{BLOCK_ITEMS};
 
 use crate::item::Item;
+use crate::limits::BLOCK_ITEMS;
 use std::alloc::{AllocError, Global};
 use std::marker::Model;
 
-/// How many items a block of a journal has at most.
-pub(crate) const BLOCK_ITEMS: usize = 1_024;
-
 /// A block of a journal. In a contract it is its items.
 #[derive(Drop)]
-pub struct JournalBlock {
+pub(crate) struct JournalBlock {
     items: Vec<Item>,
 }
 
@@ -18,7 +16,7 @@ impl Model for JournalBlock {
     ghost use Rattle.std.specs.Prelude.{◌≤◌, List};
     ghost use Rattle.std.specs.Vec.{vec_capacity};
     ghost use Rattle.pay_shard.specs.declared.item.Item.{Item};
-    ghost use Rattle.pay_shard.specs.declared.block.TheConstants.{BLOCK_ITEMS};
+    ghost use Rattle.pay_shard.specs.declared.limits.TheConstants.{BLOCK_ITEMS};
 
     ghost Value = { List Item };
 
@@ -53,12 +51,5 @@ impl JournalBlock {
         ensures { result ≡ slice_get self.now place }
     {
         self.items.get(place).copied()
-    }
-
-    /// Its items.
-    pub fn items(&self) -> &[Item]
-        ensures { result.now ≡ self.now }
-    {
-        &self.items
     }
 }

@@ -1,22 +1,24 @@
-ghost use Rattle.std.specs.Prelude.{◌≡◌, ◌+◌, ◌-◌, ◌≤◌, ◌↔◌, [], ◌∷◌, ◌++◌, length, IsOk, OnOk, IsTrue, slice_get};
+ghost use Rattle.std.specs.Prelude.{◌≡◌, ◌+◌, ◌-◌, ◌<◌, ◌≤◌, [], ◌∷◌, ◌++◌, length, IsOk, OnOk, OnErr, None, max, slice_get};
 ghost use Rattle.std.specs.Option.{option_map};
-ghost use Rattle.pay_shard.specs.declared.block.TheConstants.{BLOCK_ITEMS};
-ghost use Rattle.pay_shard.specs.JournalParts.{all_in};
+ghost use Rattle.pay_shard.specs.declared.limits.TheConstants.{BLOCK_ITEMS};
 
-use crate::block::{BLOCK_ITEMS, JournalBlock};
+use crate::block::JournalBlock;
 use crate::item::Item;
+use crate::limits::BLOCK_ITEMS;
+use crate::past::Past;
 use std::alloc::{AllocError, Global};
 use std::default::MadeWith;
 use std::marker::Model;
+use std::snapshot::Snapshot;
 
-/// How many blocks a journal has at most: the number of all items that they take fits a `usize`.
-const MOST_BLOCKS: usize = usize::MAX / BLOCK_ITEMS;
-
-/// The items of a shard, in order. It grows by blocks, and moves no item. In a contract it is the items, and for how many
-/// more there is room.
+/// The items of a shard, in order. It grows by blocks, and moves no item. What it forgets takes no memory, and can be got no
+/// more. In a contract it is all items, how many of the first are forgotten, and for how many more there is room.
 #[derive(Drop)]
 pub struct Journal {
     alloc: Global,
+    past: Past,
+    // How many items are forgotten.
+    forgotten: usize,
     // Full ones, the one that is filled, and empty ones.
     blocks: Vec<JournalBlock>,
     // How many items they have.
@@ -24,17 +26,20 @@ pub struct Journal {
 }
 
 impl Model for Journal {
-    ghost use Rattle.std.specs.Prelude.{◌-◌, ◌*◌, length};
-    ghost use Rattle.pay_shard.specs.declared.block.TheConstants.{BLOCK_ITEMS};
-    ghost use Rattle.pay_shard.specs.JournalParts.{JournalParts, journal_code, all_in, AreBlocks};
+    ghost use Rattle.std.specs.Prelude.{◌≡◌, ◌-◌, ◌*◌, ◌++◌, length};
+    ghost use Rattle.pay_shard.specs.declared.limits.TheConstants.{BLOCK_ITEMS};
+    ghost use Rattle.pay_shard.specs.JournalParts.{JournalParts, JournalMemory, journal_code, all_in, all_past, AreBlocks};
 
     ghost Value = { JournalParts };
 
     ghost coded = { journal_code };
 
-    ghost view = { λ j. record { items = all_in j.blocks.items; room = BLOCK_ITEMS * length j.blocks.items - j.len } };
+    ghost view = { λ j. record {
+      items = all_past j.past ++ all_in j.blocks.items;
+      memory = record { forgotten = j.forgotten; room = BLOCK_ITEMS * length j.blocks.items - j.len };
+    } };
 
-    ghost invariant = { λ j. AreBlocks j.len j.blocks.items };
+    ghost invariant = { λ j. (length (all_past j.past) ≡ j.forgotten) × AreBlocks j.forgotten j.len j.blocks.items };
 }
 
 impl MadeWith<Global> for Journal {
@@ -53,32 +58,34 @@ fn block_at(blocks: &[JournalBlock], number: usize) -> Option<&JournalBlock>
 impl Journal {
     /// No items, which take no memory.
     pub fn new(alloc: Global) -> Journal
-        ensures { result ≡ record { items = []; room = 0 } }
+        ensures { result ≡ record { items = []; memory = record { forgotten = 0; room = 0 } } }
     {
         Journal {
             alloc,
+            past: Past::None,
+            forgotten: 0,
             blocks: Vec::new(alloc),
             len: 0,
         }
     }
 
-    /// How many items there are.
+    /// How many items there are, with those that are forgotten.
     pub fn len(&self) -> usize
         ensures { result ≡ length self.now.items }
     {
-        self.len
+        self.forgotten + self.len
     }
 
-    /// Whether there is none.
-    pub fn is_empty(&self) -> bool
-        ensures { IsTrue result ↔ (self.now.items ≡ []) }
+    /// How many of the first ones are forgotten.
+    pub fn forgotten(&self) -> usize
+        ensures { result ≡ self.now.memory.forgotten }
     {
-        self.len == 0
+        self.forgotten
     }
 
     /// How many more items it takes without memory.
     pub fn room(&self) -> usize
-        ensures { result ≡ self.now.room }
+        ensures { result ≡ self.now.memory.room }
     {
         self.blocks.len() * BLOCK_ITEMS - self.len
     }
@@ -86,10 +93,11 @@ impl Journal {
     /// Makes room for a block more. An `Err` is out of memory.
     fn add_block(&mut self) -> Result<(), AllocError>
         ensures items { self.new.items ≡ self.old.items }
-        ensures ok { OnOk result (self.new.room ≡ self.old.room + BLOCK_ITEMS) }
-        ensures no_less { self.old.room ≤ self.new.room }
+        ensures forgotten { self.new.memory.forgotten ≡ self.old.memory.forgotten }
+        ensures ok { OnOk result (self.new.memory.room ≡ self.old.memory.room + BLOCK_ITEMS) }
+        ensures refused { OnErr result (self.new.memory.room ≡ self.old.memory.room) }
     {
-        if self.blocks.len() >= MOST_BLOCKS {
+        if self.blocks.len() >= (usize::MAX - self.forgotten) / BLOCK_ITEMS {
             return Err(AllocError);
         }
         let block = JournalBlock::new(self.alloc)?;
@@ -100,10 +108,12 @@ impl Journal {
     /// Makes room for so many more items. An `Err` is out of memory.
     pub fn reserve(&mut self, items: usize) -> Result<(), AllocError>
         ensures items { self.new.items ≡ self.old.items }
-        ensures ok { OnOk result (items ≤ self.new.room) }
-        ensures no_less { self.old.room ≤ self.new.room }
-        ensures there { items ≤ self.old.room → IsOk result }
-        ensures same { items ≤ self.old.room → self.new ≡ self.old }
+        ensures forgotten { self.new.memory.forgotten ≡ self.old.memory.forgotten }
+        ensures ok { OnOk result (items ≤ self.new.memory.room) }
+        ensures no_less { self.old.memory.room ≤ self.new.memory.room }
+        ensures most { self.new.memory.room ≤ max self.old.memory.room (items + (BLOCK_ITEMS - 1)) }
+        ensures there { items ≤ self.old.memory.room → IsOk result }
+        ensures same { items ≤ self.old.memory.room → self.new ≡ self.old }
     {
         while self.room() < items {
             self.add_block()?;
@@ -113,27 +123,38 @@ impl Journal {
 
     /// Adds an item, which takes no memory.
     pub fn push(&mut self, item: Item)
-        requires { 1 ≤ self.old.room }
+        requires { 1 ≤ self.old.memory.room }
         ensures items { self.new.items ≡ self.old.items ++ item ∷ [] }
-        ensures room { self.new.room ≡ self.old.room - 1 }
+        ensures forgotten { self.new.memory.forgotten ≡ self.old.memory.forgotten }
+        ensures room { self.new.memory.room ≡ self.old.memory.room - 1 }
     {
         let place = self.len / BLOCK_ITEMS;
         self.blocks[place].add(item);
         self.len += 1;
     }
 
-    /// The item at a place.
-    pub fn get(&self, place: usize) -> Option<Item>
-        ensures { result ≡ slice_get self.now.items place }
+    /// Forgets all items: what they take is given back.
+    pub fn forget(&mut self)
+        ensures { self.new ≡ record { items = self.old.items; memory = record { forgotten = length self.old.items; room = 0 } } }
     {
-        let block = block_at(&self.blocks, place / BLOCK_ITEMS)?;
-        block.get(place % BLOCK_ITEMS)
+        let earlier = Snapshot::of(&self.past);
+        let blocks = Snapshot::of(&self.blocks);
+        self.past = Past::Then { earlier, blocks };
+        self.forgotten += self.len;
+        self.blocks = Vec::new(self.alloc);
+        self.len = 0;
     }
 
-    /// The blocks, whose items, one block after another, are all.
-    pub fn blocks(&self) -> &[JournalBlock]
-        ensures { all_in result.now ≡ self.now.items }
+    /// The item at a place, if it is not forgotten.
+    pub fn get(&self, place: usize) -> Option<Item>
+        ensures kept { self.now.memory.forgotten ≤ place → result ≡ slice_get self.now.items place }
+        ensures none { place < self.now.memory.forgotten → result ≡ None }
     {
-        &self.blocks
+        if place < self.forgotten {
+            return None;
+        }
+        let kept = place - self.forgotten;
+        let block = block_at(&self.blocks, kept / BLOCK_ITEMS)?;
+        block.get(kept % BLOCK_ITEMS)
     }
 }

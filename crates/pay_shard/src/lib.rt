@@ -16,6 +16,7 @@ mod journal;
 pub mod laws;
 pub mod limits;
 mod local_desk;
+mod past;
 mod refusal;
 mod reply;
 mod selection;
@@ -24,7 +25,6 @@ mod ticket;
 
 pub use asked::Asked;
 pub use batch::Batch;
-pub use block::JournalBlock;
 pub use command::Command;
 pub use desk::{Desk, DeskFault};
 pub use item::{Entry, Item};

@@ -10,7 +10,7 @@ ghost use Rattle.pay_shard.specs.Held.{state_of};
 ghost use Rattle.pay_shard.specs.Desks.{with_waiting, without, IsForShards, IsAfterAll, IsNoneOf, IsReplyTo, NothingIsLost};
 ghost use Rattle.pay_shard.specs.declared.desk.DeskFault.TheVariants.{Late};
 ghost use Rattle.pay_shard.specs.LocalParts.{tickets_of, answers_without, transcript_of, desk_parts, AreInPlace, AreBelow, IsTaken};
-ghost use Rattle.pay_shard.specs.ShardParts.{with_room};
+ghost use Rattle.pay_shard.specs.ShardParts.{with_memory};
 ghost use Rattle.pay_shard.specs.declared.reply.Answer.{Answer};
 
 use crate::command::Command;
@@ -107,11 +107,13 @@ impl<F: Fares> LocalDesk<F> {
         })
     }
 
-    /// Its shard. Each entry of the journal is of lane 0, and its ticket is its place. Those that wait are places of it.
+    /// Its shard, which has forgotten nothing. Each entry of the journal is of lane 0, and its ticket is its place. Those that wait are
+    /// places of it.
     #[tactic(auto, using(crate::proofs::LocalDesks::all_places))]
     pub fn shard(&self) -> &Shard<F>
         ensures value { result.now ≡ self.now.shard }
         ensures number { result.now.number ≡ 0 }
+        ensures whole { result.now.memory.forgotten ≡ 0 }
         ensures in_place { AreInPlace 0 result.now.journal }
         ensures below { AreBelow (length result.now.journal) self.now.waiting }
     {
@@ -154,7 +156,7 @@ impl<F: Fares> Desk for LocalDesk<F> {
         ensures refused { IfErr result (λ fault. (desk_parts self.old).MayRefuse fault) }
         ensures transcript { NothingIsLost (desk_parts self.old).transcript (desk_parts self.new).transcript }
         ensures item { IfOk result (λ ticket. IsTaken ticket command self.old.shard self.new.shard) }
-        ensures same { OnErr result (self.new.shard ≡ with_room self.old.shard self.new.shard.room) }
+        ensures same { OnErr result (self.new.shard ≡ with_memory self.old.shard self.new.shard.memory) }
     {
         self.kept.reserve(1)?;
         self.shard.reserve(1)?;

@@ -1,14 +1,15 @@
-ghost use Rattle.std.specs.Prelude.{◌≡◌, ◌+◌, ◌≤◌, ◌<◌, map as each, [], None, Some, IsOk, IfOk, IfErr, IfSome, IfNone, OnOk, OnErr, ◌++◌, ◌∷◌};
+ghost use Rattle.std.specs.Prelude.{◌≡◌, ◌+◌, ◌-◌, ◌≤◌, ◌<◌, map as each, [], length, max, None, Some, IsOk, IfOk, IfErr, IfSome, IfNone, OnOk, OnErr, ◌++◌, ◌∷◌};
 ghost use Rattle.std.specs.Arc.{arc_value};
 ghost use Rattle.std.specs.FinMap as map;
 ghost use Rattle.std.specs.List.{IsDistinct};
 ghost use Rattle.std.specs.Ordering.{nat_cmp, eq_by_cmp};
 ghost use Rattle.pay_rules.specs.Accepted.{nothing};
 ghost use Rattle.pay_rules.specs.State.{accepted_of, ArePriced};
+ghost use Rattle.pay_shard.specs.declared.limits.TheConstants.{BLOCK_ITEMS};
 ghost use Rattle.pay_shard.specs.Held.{state_of};
 ghost use Rattle.pay_shard.specs.Machine.{is_memory};
 ghost use Rattle.pay_shard.specs.Runs.{IsHistory, IsMarkedRightly};
-ghost use Rattle.pay_shard.specs.ShardParts.{state_now, answers_given, next_answer, item_of, with_item, with_room};
+ghost use Rattle.pay_shard.specs.ShardParts.{state_now, answers_given, next_answer, item_of, with_item, with_memory};
 
 use crate::accounts::Accounts;
 use crate::item::{Entry, Item};
@@ -23,7 +24,7 @@ use std::sync::Arc;
 
 /// A shard: its accounts, and the journal of what was asked of it. What the accounts have accepted is the replay of the
 /// journal from what they had accepted when it began. In a contract it is its number, the fare file, that beginning, the
-/// journal, and the room that the journal has.
+/// journal, and what of it is in memory.
 #[derive(Drop)]
 pub struct Shard<F: Fares> {
     number: u8,
@@ -46,7 +47,7 @@ impl<F: Fares> Model for Shard<F> {
       editions = s.accounts.editions;
       base = s.base.value.state;
       journal = s.journal.items;
-      room = s.journal.room;
+      memory = s.journal.memory;
     } };
 
     ghost invariant = { λ s. (s.accounts.state ≡ replay s.accounts.editions s.base.value.state s.journal.items)
@@ -75,6 +76,7 @@ impl<F: Fares> Shard<F> {
         ensures editions { IfOk result (λ shard. shard.editions ≡ arc_value editions) }
         ensures base { IfOk result (λ shard. shard.base ≡ state_of F.account F.accepted base.items) }
         ensures journal { IfOk result (λ shard. shard.journal ≡ []) }
+        ensures memory { IfOk result (λ shard. shard.memory ≡ record { forgotten = 0; room = 0 }) }
         ensures given_back { IfErr result (λ failed. failed.value ≡ base) }
         ensures of_none { base.items ≡ [] → IsOk result }
     {
@@ -103,25 +105,35 @@ impl<F: Fares> Shard<F> {
 
     /// How many more items the journal takes without memory.
     pub fn room(&self) -> usize
-        ensures { result ≡ self.now.room }
+        ensures { result ≡ self.now.memory.room }
     {
         self.journal.room()
     }
 
     /// Makes room for so many more items. An `Err` is out of memory.
     pub fn reserve(&mut self, items: usize) -> Result<(), AllocError>
-        ensures same { self.new ≡ with_room self.old self.new.room }
-        ensures ok { OnOk result (items ≤ self.new.room) }
-        ensures no_less { self.old.room ≤ self.new.room }
-        ensures succeeds { items ≤ self.old.room → IsOk result }
+        ensures same { self.new ≡ with_memory self.old self.new.memory }
+        ensures forgotten { self.new.memory.forgotten ≡ self.old.memory.forgotten }
+        ensures ok { OnOk result (items ≤ self.new.memory.room) }
+        ensures no_less { self.old.memory.room ≤ self.new.memory.room }
+        ensures most { self.new.memory.room ≤ max self.old.memory.room (items + (BLOCK_ITEMS - 1)) }
+        ensures succeeds { items ≤ self.old.memory.room → IsOk result }
+        ensures there { items ≤ self.old.memory.room → self.new ≡ self.old }
     {
         self.journal.reserve(items)
+    }
+
+    /// Forgets the items of the journal, whose memory is given back. The accounts are still their replay.
+    pub fn forget(&mut self)
+        ensures { self.new ≡ with_memory self.old (record { forgotten = length self.old.journal; room = 0 }) }
+    {
+        self.journal.forget();
     }
 
     /// All that was asked, in order.
     pub fn journal(&self) -> &Journal
         ensures value { result.now.items ≡ self.now.journal }
-        ensures room { result.now.room ≡ self.now.room }
+        ensures memory { result.now.memory ≡ self.now.memory }
         ensures history { IsHistory self.now.editions self.now.base result.now.items }
     {
         &self.journal
@@ -130,6 +142,7 @@ impl<F: Fares> Shard<F> {
     /// All that was asked, in order, without the accounts.
     pub fn into_journal(self) -> Journal
         ensures value { result.items ≡ self.journal }
+        ensures memory { result.memory ≡ self.memory }
         ensures history { IsHistory self.editions self.base result.items }
     {
         self.journal
@@ -153,9 +166,10 @@ impl<F: Fares> Shard<F> {
     /// Answers an entry, which is one more item of the journal. Where memory for it is refused, the item is so marked, and
     /// the accounts are as before; what is to be refused is refused all the same.
     pub fn apply(&mut self, entry: Entry) -> Answer
-        requires { 0 < self.old.room }
-        ensures journal { self.new ≡ with_item self.old (item_of entry (is_memory result.reply)) self.new.room }
-        ensures room { self.old.room ≤ self.new.room + 1 }
+        requires { 0 < self.old.memory.room }
+        ensures journal { self.new ≡ with_item self.old (item_of entry (is_memory result.reply)) self.new.memory }
+        ensures forgotten { self.new.memory.forgotten ≡ self.old.memory.forgotten }
+        ensures room { self.new.memory.room ≡ self.old.memory.room - 1 }
         ensures answer { result ≡ next_answer self.old (item_of entry (is_memory result.reply)) }
         ensures answers { answers_given self.new ≡ answers_given self.old ++ result ∷ [] }
         ensures refusals { IsMarkedRightly self.old.editions (state_now self.old) (item_of entry (is_memory result.reply)) }

@@ -220,3 +220,33 @@ fn over_any_number_of_shards(rt: HostRuntime) {
     expect_over(&rt, 2);
     expect_over(&rt, 16);
 }
+
+/// The price of the day after the tap of a ride, which is the next item of a shard's journal.
+fn ridden<R: Abort>(rt: &R, shard: &mut Shard<Book>, ride: usize) -> Option<u64> {
+    let (seq, second, place, kind, _) = *RIDES.get(ride).expect(rt, "a ride");
+    let told = reply(rt, shard, Asked::Tap(tap_at(rt, seq, second, place, kind)));
+    day_price(&told)
+}
+
+/// How many items there are, how many are forgotten, and whether those at the first two places can be got.
+fn remembered(shard: &Shard<Book>) -> (usize, usize, bool, bool) {
+    let journal = shard.journal();
+    let first = journal.get(0).is_some();
+    (
+        journal.len(),
+        journal.forgotten(),
+        first,
+        journal.get(1).is_some(),
+    )
+}
+
+#[test]
+fn what_a_shard_forgets_still_counts(rt: HostRuntime) {
+    let mut shard = empty_shard(&rt, sample(&rt), 0);
+    expect_same(&rt, ridden(&rt, &mut shard, 0), Some(860));
+    expect_same(&rt, remembered(&shard), (1, 0, true, false));
+    shard.forget();
+    expect_same(&rt, remembered(&shard), (1, 1, false, false));
+    expect_same(&rt, ridden(&rt, &mut shard, 1), Some(340));
+    expect_same(&rt, remembered(&shard), (2, 1, false, true));
+}

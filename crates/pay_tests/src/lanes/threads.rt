@@ -30,11 +30,17 @@ struct Yielding {
 }
 
 impl Gate for Yielding {
-    ghost use Rattle.std.specs.Prelude.{⊤, None};
+    ghost use Rattle.std.specs.Prelude.{⊤, None, false};
 
     ghost Holds = { λ _ _ _. ⊤ };
 
     ghost began = { λ _. None };
+
+    ghost forgets = { false };
+
+    fn forgets() -> bool {
+        false
+    }
 
     fn before_job<R: Wait>(&mut self, _rt: &R, _shard: u8, _entry: &Entry) {
         self.state = self

@@ -92,11 +92,17 @@ impl Counting {
 }
 
 impl Gate for Counting {
-    ghost use Rattle.std.specs.Prelude.{⊤, None};
+    ghost use Rattle.std.specs.Prelude.{⊤, None, false};
 
     ghost Holds = { λ _ _ _. ⊤ };
 
     ghost began = { λ _. None };
+
+    ghost forgets = { false };
+
+    fn forgets() -> bool {
+        false
+    }
 
     fn before_job<R: Wait>(&mut self, _rt: &R, _shard: u8, _entry: &Entry) {
         self.counts.entered.fetch_add(1, Ordering::SeqCst);

@@ -1,8 +1,9 @@
-use Rattle.std.proofs.Common.{◌<◌, [], inl, inr, length, ap, rules, sym, ◌∙◌, subst, IsPermutation, arith}
+use Rattle.std.proofs.Common.{◌≡◌, All, ◌<◌, [], inl, inr, length, ap, rules, sym, ◌∙◌, subst, IsPermutation, arith}
 use Rattle.std.proofs.Common.{map as each}
 use Rattle.std.proofs.lemmas.Iterator.Adapters.{YieldsList-from_vec}
 use Rattle.std.proofs.lemmas.Iterator.Consumers.{YieldsList-turn, YieldsList-end}
 use Rattle.std.proofs.lemmas.List.{length_push}
+use Rattle.std.proofs.lemmas.List.Elements.{All-nil}
 use Rattle.std.specs.List.{range_with_len}
 use Rattle.arrayvec.specs.ArrayVec.{array_vec_len}
 use Rattle.pay_lanes.specs.Ends.{lanes_of, numbers}
@@ -10,6 +11,8 @@ use Rattle.pay_lanes.specs.Gates.{HavePassed}
 use Rattle.pay_lanes.proofs.Numbers.{in_order_all, count, order_at}
 use Rattle.pay_lanes.proofs.Exchanges.{each_length}
 use Rattle.pay_lanes.proofs.Endings.{none_ended, next_here, one_ended, pushed, journals_end, many_end, known_end, asked_end, right_end, sent_end, answered_end, one_passed, one_gate_more, gates_end, one_began, began_end}
+use Rattle.pay_lanes.proofs.InMemory.{whole_more}
+use Rattle.pay_shard.specs.Words.{JournalParts}
 use Rattle.pay_lanes.proofs.ending.end.Goals as goal
 
 pub returns-then-not-put_in_order-clause-missing :
@@ -30,6 +33,7 @@ loop-worker-init g c = (
   ap length c.new.ensures.items,
   inl c.new.ensures.items,
   ap (each g.G.Gate.began) c.new.ensures.items,
+  λ keeps. subst (All (λ (j : JournalParts). j.memory.forgotten ≡ 0)) (sym c.new_in.ensures) (All-nil (λ (j : JournalParts). j.memory.forgotten ≡ 0)),
 )
 
 pub end_worker-journal-requires-clause-next : goal.end_worker-journal-requires-clause-next
@@ -67,6 +71,7 @@ loop-worker-preserved g c =
       one_gate_more _ _ _ _ _ _ _ c.loop-worker.invariant.4 more c.end_worker-journal.ensures.passed,
       inr c.end_worker-journal.ensures.has_room,
       one_began _ _ _ _ _ _ c.loop-worker.invariant.0 c.in-Some.worker turn.0 turn.1 g.G.Gate.began _ _ _ more c.loop-worker.invariant.6 c.end_worker-journal.ensures.began,
+      λ keeps. whole_more c.loop-worker.ended.journals.items c.push.new.self.items c.end_worker-journal.result.0 c.push.ensures.items (c.end_worker-journal.ensures.whole keeps) (c.loop-worker.invariant.7 keeps),
     )
 
 pub returns-clause-all : goal.returns-clause-all

@@ -1,4 +1,4 @@
-use Rattle.std.proofs.Common.{◌≡◌, ◌≤◌, ◌⊎◌, [], length, take, vec_items, vec_capacity}
+use Rattle.std.proofs.Common.{◌≡◌, ◌≤◌, ◌⊎◌, false, [], All, length, take, vec_items, vec_capacity}
 use Rattle.std.proofs.Common.{map as each}
 use Rattle.arrayvec.specs.ArrayVec.{array_vec_len}
 use Rattle.pay_lanes.specs.Gates.{HavePassed}
@@ -15,3 +15,4 @@ invariant-loop-worker g l =
     × (length l.ended.gates.items ≡ length l.yielded)
     × ((l.ended.gates.items ≡ []) ⊎ (MOST_JOURNALS ≤ vec_capacity l.ended.gates))
     × (each g.G.Gate.began l.ended.gates.items ≡ began_of (take (length l.yielded) l.fn.workers.items))
+    × (g.G.Gate.forgets ≡ false → All (λ j. j.memory.forgotten ≡ 0) l.ended.journals.items)

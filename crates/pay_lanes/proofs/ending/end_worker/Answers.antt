@@ -5,7 +5,11 @@ use Rattle.pay_lanes.specs.Working.{IsWorking}
 use Rattle.pay_lanes.specs.Gates.{IsGated}
 use Rattle.pay_lanes.proofs.Endings.{began_after}
 use Rattle.pay_lanes.proofs.Exchanges.{begun, some_left, some_way, own_way, own_first, one_more, all_back, all_given, all_left, all_known, all_answered, all_passed}
+use Rattle.pay_lanes.proofs.InMemory.{whole_of}
 use Rattle.pay_lanes.proofs.ending.end_worker.Goals as goal
+
+pub returns-clause-whole : goal.returns-clause-whole
+returns-clause-whole g c = whole_of g.G.Gate.forgets c.worker.inside.shard c.into_journal.result.memory c.into_journal.ensures.memory c.worker.invariant.6
 
 pub loop-place-init : goal.loop-place-init
 loop-place-init g c = begun c.args.worker _ c.args.lanes.now.items c.worker.view_is c.requires.next.back

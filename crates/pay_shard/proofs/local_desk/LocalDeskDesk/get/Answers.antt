@@ -14,7 +14,7 @@ pub returns-clause-reply : goal.returns-clause-reply
 returns-clause-reply g c =
     let s = c.self.inside.shard in
     subst (λ t. IsReplyTo t (commands_of s.journal) (transcript_of s) c.take_out.result) c.number.ensures
-    (reply_to s c.number.result c.take_out.result c.self.invariant.0.1 (reply_found c.number.result s c.self.inside.kept.items c.take_out.result c.self.invariant.1.0 c.take_out.ensures.reply))
+    (reply_to s c.number.result c.take_out.result c.self.invariant.0.2 (reply_found c.number.result s c.self.inside.kept.items c.take_out.result c.self.invariant.1.0 c.take_out.ensures.reply))
 
 pub returns-clause-got : goal.returns-clause-got
 returns-clause-got g c =

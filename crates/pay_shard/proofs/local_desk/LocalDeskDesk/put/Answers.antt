@@ -10,19 +10,19 @@ use Rattle.pay_shard.proofs.local_desk.LocalDeskDesk.put.Goals as goal
 pub invariant_of-self-2 : goal.invariant_of-self-2
 invariant_of-self-2 g c =
     local_after_put c.self.inside.shard c.reserve-2.new.self c.apply.new.self (record { lane = 0; ticket = c.len-ticket.result; command = c.args.command }) (is_memory c.apply.result.reply)
-    c.reserve-2.new.self.room c.apply.new.self.room c.in_ok-reserve-2.ensures.same c.apply.ensures.journal
-    c.self.inside.kept.items c.reserve.new.self.items c.keep.new.kept.items c.apply.result c.self.invariant refl (c.len-ticket.ensures ∙ ap length c.journal.ensures.value) c.apply.ensures.answer c.reserve.ensures.items c.keep.ensures
+    c.reserve-2.new.self.memory c.apply.new.self.memory c.in_ok-reserve-2.ensures.same c.apply.ensures.journal
+    c.self.inside.kept.items c.reserve.new.self.items c.keep.new.kept.items c.apply.result (c.apply.ensures.forgotten ∙ c.in_ok-reserve-2.ensures.forgotten) c.self.invariant refl (c.len-ticket.ensures ∙ ap length c.journal.ensures.value) c.apply.ensures.answer c.reserve.ensures.items c.keep.ensures
 
 pub returns-clause-later : goal.returns-clause-later
 returns-clause-later g c =
     let many = c.of.ensures ∙ c.len-ticket.ensures ∙ ap length c.journal.ensures.value ∙ ap (λ (s : ShardParts). length s.journal) c.in_ok-reserve-2.ensures.same in
-    subst (λ (d : LocalParts). IsAfterAll c.of.result (commands_of d.shard.journal)) c.self.view_is (after_all c.self.inside.shard.journal c.of.result c.self.invariant.0.1 many)
+    subst (λ (d : LocalParts). IsAfterAll c.of.result (commands_of d.shard.journal)) c.self.view_is (after_all c.self.inside.shard.journal c.of.result c.self.invariant.0.2 many)
 
 pub returns-clause-transcript : goal.returns-clause-transcript
 returns-clause-transcript g c =
     subst (λ (d : LocalParts). NothingIsLost (transcript_of d.shard) (transcript_of c.apply.new.self)) c.self.view_is
     (answers_after_put c.self.inside.shard c.reserve-2.new.self c.apply.new.self (record { lane = 0; ticket = c.len-ticket.result; command = c.args.command }) (is_memory c.apply.result.reply)
-    c.reserve-2.new.self.room c.apply.new.self.room c.in_ok-reserve-2.ensures.same c.apply.ensures.journal)
+    c.reserve-2.new.self.memory c.apply.new.self.memory c.in_ok-reserve-2.ensures.same c.apply.ensures.journal)
 
 pub returns-clause-fresh : goal.returns-clause-fresh
 returns-clause-fresh g c =
@@ -34,4 +34,4 @@ returns-clause-item g c =
     let its : Entry = record { lane = 0; ticket = c.len-ticket.result; command = c.args.command } in
     subst (λ (d : LocalParts). IsTaken c.of.result c.args.command d.shard c.apply.new.self) c.self.view_is
     (taken_by_put c.self.inside.shard c.reserve-2.new.self c.apply.new.self its (is_memory c.apply.result.reply)
-    c.reserve-2.new.self.room c.apply.new.self.room c.in_ok-reserve-2.ensures.same c.apply.ensures.journal refl (c.len-ticket.ensures ∙ ap length c.journal.ensures.value) c.of.result c.of.ensures)
+    c.reserve-2.new.self.memory c.apply.new.self.memory c.in_ok-reserve-2.ensures.same c.apply.ensures.journal refl (c.len-ticket.ensures ∙ ap length c.journal.ensures.value) c.of.result c.of.ensures)
