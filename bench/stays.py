@@ -1,6 +1,6 @@
 #!/usr/bin/env python3
-"""Times a service that stays: a hundred readers over connections of their own, many that are silent beside them, and
-taps while a day is closed. See README.md."""
+"""Times a service that stays: a hundred readers over connections of their own, many that are silent beside them, what
+questions leave in memory, and taps while a day is closed. See README.md."""
 
 import argparse
 import contextlib
@@ -113,6 +113,16 @@ def with_silent(port, process, count):
         print(f"{'memory of a silent connection':46}{each:8.0f} bytes", flush=True)
 
 
+def with_questions(port, process, count):
+    """What so many questions, and as many repeats of a tap, leave in memory."""
+    for name, line in (("question", b"DUE 1 %d\n" % MONDAY), ("repeat", boarding(1))):
+        exchange(way_of_socket(port), [line] * 10_000)
+        before = resident(process)
+        for _ in range(10):
+            exchange(way_of_socket(port), [line] * (count // 10))
+        print(f"{f'memory of each of {count:,} {name}s':46}{(resident(process) - before) / count:8.2f} bytes", flush=True)
+
+
 def while_closing(port, control, accounts):
     """The seconds of each lone tap while a day of so many accounts is closed, and how long the close took."""
     exchange(way_of_socket(port), [boarding(2_000_000 + number) for number in range(accounts)])
@@ -148,6 +158,7 @@ def while_closing(port, control, accounts):
 def main():
     parse = argparse.ArgumentParser(description=__doc__)
     parse.add_argument("--silent", type=int, default=2_000, help="how many connections are silent")
+    parse.add_argument("--questions", type=int, default=1_000_000, help="how many questions are asked")
     parse.add_argument("--accounts", type=int, default=100_000, help="how many accounts are closed")
     given = parse.parse_args()
     most = resource.getrlimit(resource.RLIMIT_NOFILE)[1]
@@ -159,6 +170,7 @@ def main():
     with tempfile.TemporaryDirectory() as folder, staying(PROGRAM, folder) as (port, control, process):
         told(f"a tap of {READERS} readers", readers(port, 1))
         with_silent(port, process, given.silent)
+        with_questions(port, process, given.questions)
         while_closing(port, control, given.accounts)
 
 
