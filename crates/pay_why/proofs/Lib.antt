@@ -6,5 +6,8 @@ pub mod Counted
 pub mod Corrected
 pub mod ByRail
 pub mod Beside
+pub mod Ordered
+pub mod DayLists
+pub mod DayRows
 pub mod ReasonRows
 mod CapRows

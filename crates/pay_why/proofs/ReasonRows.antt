@@ -9,7 +9,7 @@ use Rattle.pay_tables.specs.declared.place.Place.TheVariants.{Station}
 use Rattle.pay_tables.specs.declared.single.Single.{Single}
 use Rattle.pay_tables.specs.Words.{FareEditions, FareTables, station_at}
 use Rattle.pay_rules.specs.declared.tap.Kind.{Kind}
-use Rattle.pay_rules.specs.declared.tap.Kind.TheVariants.{In, Out}
+use Rattle.pay_rules.specs.declared.tap.Kind.TheVariants.{In, Out, Bus}
 use Rattle.pay_rules.specs.declared.tap.Touch.{Touch}
 use Rattle.pay_rules.specs.declared.parts.Leg.{Leg}
 use Rattle.pay_rules.specs.declared.journey.Journey.{Journey}
@@ -18,11 +18,13 @@ use Rattle.pay_why.specs.declared.peak.PeakReason.TheVariants.{Weekend, Holiday,
 use Rattle.pay_why.specs.declared.lone.LoneReason.TheVariants.{NoExit, LateExit, NoEntry, EarlyEntry}
 use Rattle.pay_why.specs.declared.rail.RailReason.{RailReason}
 use Rattle.pay_why.specs.declared.rail.RailReason.TheVariants.{SingleFare, FreeAtStation, SameStation, MaximumFare}
+use Rattle.pay_why.specs.declared.listed.Mode.TheVariants as mode
 use Rattle.pay_why.specs.LoneTaps.{lone_reason}
 use Rattle.pay_rules.specs.RailJourneys.{alone}
 use Rattle.pay_rules.specs.Journeys.{rail_journeys}
 use Rattle.pay_why.specs.RailReasons.{run_reason, rail_reason, rail_fare}
 use Rattle.pay_why.specs.Places.{rail_reason_at}
+use Rattle.pay_why.specs.Listed.{listed_journeys}
 
 abbrev pub zones : ℕ → ℕ → Span
 zones from to = record { from = from; to = to }
@@ -234,3 +236,24 @@ second_of_three = rw (at_14, at_12) refl
 
 third_of_three : rail_reason_at editions three 2 ≡ Some (SingleFare (zones 1 1) Morning)
 third_of_three = rw (at_14, at_12, at_10, at_11) (ap Some from_10_to_11)
+
+-- ---- the journeys that a day lists
+
+abbrev boarded : ℕ → ℕ → Touch
+boarded day second = tap Bus 50 day second
+
+-- Two boardings and a ride of Monday, 2024-01-08, and a ride of the Sunday before: at 07:30:00 by bus, at 08:00:00 by rail, and at 08:01:40 by bus, for free.
+-- The ride is the second one of the account.
+of_monday : listed_journeys editions (ride 19_729 70_000 ∷ ride 19_730 28_800 ∷ []) (boarded 19_730 27_000 ∷ boarded 19_730 28_900 ∷ []) 19_730
+    ≡ record { mode = mode.Bus; place = 0; tap = boarded 19_730 27_000; fare = 175 } ∷ record { mode = mode.Rail; place = 1; tap = tap In 10 19_730 28_800; fare = 340 }
+    ∷ record { mode = mode.Bus; place = 1; tap = boarded 19_730 28_900; fare = 0 } ∷ []
+of_monday = rw (at_10, at_12) refl
+
+-- of two journeys of one second that of the lower seq comes first
+abbrev numbered : ℕ → Touch → Touch
+numbered seq touch = record touch { second = seq }
+
+in_one_second : listed_journeys editions (journey.Lone (numbered 3 (tap In 10 19_730 28_800)) ∷ []) (numbered 2 (boarded 19_730 28_800) ∷ []) 19_730
+    ≡ record { mode = mode.Bus; place = 0; tap = numbered 2 (boarded 19_730 28_800); fare = 175 }
+    ∷ record { mode = mode.Rail; place = 0; tap = numbered 3 (tap In 10 19_730 28_800); fare = 860 } ∷ []
+in_one_second = refl

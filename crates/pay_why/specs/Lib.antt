@@ -10,4 +10,6 @@ pub mod DueLaws
 pub mod Corrections
 pub mod CorrectionLaws
 pub mod Laws
+pub mod Listed
+pub mod ListedLaws
 pub mod Words

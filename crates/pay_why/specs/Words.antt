@@ -7,6 +7,8 @@ pub use Rattle.pay_why.specs.Places.{last_tap, tap_before, tap_after, rail_reaso
 pub use Rattle.pay_why.specs.Laws.{ReasonsArePaying, FirstIsFirst, InstantsPay, InstantsTellTimes, ReasonsGiveBoardingFares}
 pub use Rattle.pay_why.specs.Laws.{PeakReasonsArePeak, ReasonsGiveRailFares, OnlyBoardingsHaveNone, StationLegsBySeconds, LateExitsAreLate, EarlyEntriesAreEarly}
 pub use Rattle.pay_why.specs.Laws.{JourneysHaveReasons, NeighboursAreBeside, LoneTapsAreNoLegs}
+pub use Rattle.pay_why.specs.Listed.{bus_journeys, placed, all_placed, listed, is_listed_on, listed_journeys}
+pub use Rattle.pay_why.specs.ListedLaws.{journeys_by, journey_at, listed_on, told, told_by_line, fare_by_reason, ListsHaveJourneys, ListsTellLines, ReasonsGiveListedFares, ListedFaresAddUp}
 pub use Rattle.pay_why.specs.Caps.{Offered, winning, capped_band, cap_reason, day_reason, sums_of_day, week_reason, sums_of_week}
 pub use Rattle.pay_why.specs.CapLaws.{Wins, NamedBandsWin, NoneNamedIsLeast, ReasonsNameWinners, DayReasonsGivePrices, DaysAreSplit, WeekReasonsGivePrices, WeeksAreSplit, DaySumsGiveReasons, WeekSumsGiveReasons}
 pub use Rattle.pay_why.specs.Dues.{counted_credits, pence_of, due_reason}

@@ -5,6 +5,7 @@ ghost use Rattle.pay_why.specs.Laws.{PeakReasonsArePeak, ReasonsGiveRailFares, O
 ghost use Rattle.pay_why.specs.Laws.{JourneysHaveReasons, NeighboursAreBeside, LoneTapsAreNoLegs};
 ghost use Rattle.pay_why.specs.CapLaws.{NamedBandsWin, NoneNamedIsLeast, ReasonsNameWinners, DayReasonsGivePrices, DaysAreSplit};
 ghost use Rattle.pay_why.specs.CapLaws.{WeekReasonsGivePrices, WeeksAreSplit, DaySumsGiveReasons, WeekSumsGiveReasons};
+ghost use Rattle.pay_why.specs.ListedLaws.{ListsHaveJourneys, ListsTellLines, ReasonsGiveListedFares, ListedFaresAddUp};
 ghost use Rattle.pay_why.specs.DueLaws.{DueReasonsAreDue, CountedAreAll, CountedAreOfTheWeek};
 ghost use Rattle.pay_why.specs.CorrectionLaws.{ReasonsAreStanding, ReasonsGiveEffective, DropsAreAccepted, VoidsAreStanding};
 
@@ -65,6 +66,20 @@ pub fn rail_places()
     pay_links::laws::one_division();
     pay_links::laws::each_tap();
     pay_pairs::laws::one_parting();
+}
+
+/// A day lists the journeys of the account that are of that day, each at its place among all, in the order of
+/// their first taps: with the instants and the fares that `SHOW` tells, in its order. The reason of the
+/// journey at the place gives the fare. Together the fares are what the day comes to without a cap, and its
+/// maximum fares.
+pub fn day_lists()
+    ensures journeys { ListsHaveJourneys }
+    ensures lines { ListsTellLines }
+    ensures reasons { ReasonsGiveListedFares }
+    ensures sum { ListedFaresAddUp }
+{
+    boarding_fares();
+    rail_places();
 }
 
 /// The band that a reason of a day or a week names is the one whose offer wins: no other band offers less,
