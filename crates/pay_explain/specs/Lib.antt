@@ -1,0 +1,6 @@
+pub mod Amounts
+pub mod Sentences
+pub mod Routes
+pub mod Lines
+pub mod Sums
+pub mod Day

@@ -1,0 +1,16 @@
+//! Why a day was charged, in plain words: a line for each journey, and for each sum.
+#![tactic(auto)]
+
+mod amounts;
+mod day;
+mod lines;
+mod routes;
+mod sentences;
+mod sums;
+
+pub use amounts::{Clock, Head, Pounds};
+pub use day::day_text;
+pub use lines::{Line, Why, line_of};
+pub use routes::{Route, route_of};
+pub use sentences::{BoardingWhy, LoneWhy, Peakness, RailWhy, When, Zones};
+pub use sums::{BandLines, Covered, DaySums};
