@@ -4,3 +4,5 @@ pub mod Routes
 pub mod Lines
 pub mod Sums
 pub mod Day
+pub mod Cells
+pub mod Explained

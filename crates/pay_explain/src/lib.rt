@@ -3,6 +3,8 @@
 
 mod amounts;
 mod day;
+mod explained;
+mod journeys;
 mod lines;
 mod routes;
 mod sentences;
@@ -10,6 +12,7 @@ mod sums;
 
 pub use amounts::{Clock, Head, Pounds};
 pub use day::day_text;
+pub use explained::explained_day;
 pub use lines::{Line, Why, line_of};
 pub use routes::{Route, route_of};
 pub use sentences::{BoardingWhy, LoneWhy, Peakness, RailWhy, When, Zones};

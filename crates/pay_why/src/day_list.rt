@@ -55,7 +55,7 @@ fn add_rail(
 
 /// A boarding as a journey, with whether it pays. `last_paid` is the moment of the last boarding before it
 /// that paid, and becomes its own where it pays.
-fn next_boarding(tables: &Tables, last_paid: &mut Option<Moment>, tap: &Touch) -> Journey
+pub fn next_boarding(tables: &Tables, last_paid: &mut Option<Moment>, tap: &Touch) -> Journey
     ensures value { result ≡ journey.Bus tap.now (pays_by_last tables.now.rules.hopper last_paid.old tap.now.stamp.utc) }
     ensures after { last_paid.new ≡ last_paid_after tables.now.rules.hopper last_paid.old tap.now.stamp }
 {

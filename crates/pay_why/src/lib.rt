@@ -29,7 +29,7 @@ pub use cap::{CapReason, CappedBand};
 pub use caps::day_reason;
 pub use correction::{FixReason, TapReason};
 pub use corrections::{fix_reason, tap_reason};
-pub use day_list::listed_journeys;
+pub use day_list::{listed_journeys, next_boarding};
 pub use due::DueReason;
 pub use dues::{counted_credits, due_reason};
 pub use listed::{ListedJourney, Mode};

@@ -1,0 +1,23 @@
+-- Why a day was charged, by what an account has accepted.
+use Rattle.std.specs.Prelude.{ℕ, List, ◌++◌, filter}
+use Rattle.pay_tables.specs.Words.{FareEditions, on}
+use Rattle.pay_rules.specs.declared.tap.Touch.{Touch}
+use Rattle.pay_rules.specs.declared.journey.Journey.{Journey}
+use Rattle.pay_rules.specs.Accepted.{Accepted, touches}
+use Rattle.pay_rules.specs.Journeys.{is_bus, rail_journeys}
+use Rattle.pay_rules.specs.Prices.{journeys_on}
+use Rattle.pay_why.specs.Words.{bus_journeys, day_reason}
+use Rattle.pay_explain.specs.Day.{day_text}
+
+-- by all journeys by rail and all boardings of an account: the lines of the day's, and those of the reason of the day
+abbrev pub text_of_journeys : FareEditions → List Journey → List Touch → ℕ → List ℕ
+text_of_journeys editions journeys taps day =
+    day_text editions journeys taps day (day_reason (on editions day) (journeys_on (journeys ++ bus_journeys editions taps) day))
+
+-- by touches in order
+abbrev pub text_of_touches : FareEditions → List Touch → ℕ → List ℕ
+text_of_touches editions list day = text_of_journeys editions (rail_journeys editions list) (filter is_bus list) day
+
+-- and by what an account has accepted
+abbrev pub explained_day : FareEditions → Accepted → ℕ → List ℕ
+explained_day editions accepted day = text_of_touches editions (touches accepted) day

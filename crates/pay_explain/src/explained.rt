@@ -1,0 +1,62 @@
+//! Why a day was charged, by what an account has accepted.
+ghost use Rattle.std.specs.Prelude.{◌≡◌, ◌≤◌, ◌+◌, length, IfOk};
+ghost use Rattle.std.specs.String.{string_bytes};
+ghost use Rattle.pay_rules.specs.declared.limits.TheConstants.{MOST_TOUCHES};
+ghost use Rattle.pay_explain.specs.Explained.{text_of_journeys, text_of_touches, explained_day};
+
+use crate::day::day_text;
+use crate::journeys::{boardings_of, cells_on, rail_journeys};
+use pay_fix::{FixSet, effective};
+use pay_rules::{Journey, Touch};
+use pay_tables::Editions;
+use pay_taps::TapSet;
+use pay_why::day_reason;
+use std::alloc::{AllocError, Global};
+
+/// The text of a service day, by all journeys by rail and all boardings of an account.
+fn text_of_journeys(
+    alloc: Global,
+    editions: &Editions,
+    journeys: &[Journey],
+    boardings: &[Touch],
+    day: u32,
+) -> Result<String, AllocError>
+    requires { length journeys.now + length boardings.now ≤ MOST_TOUCHES }
+    ensures { IfOk result (λ text. string_bytes text ≡ text_of_journeys editions.now journeys.now boardings.now day) }
+{
+    pay_why::laws::reasons_by_sums(editions);
+    let cells = cells_on(editions, journeys, boardings, day);
+    let reason = day_reason(editions.on(day), &cells);
+    day_text(alloc, editions, journeys, boardings, day, &reason)
+}
+
+/// The text of a service day, by an account's effective taps in order.
+#[tactic(auto, using(crate::proofs::Counts::both_kinds))]
+fn text_of_touches(
+    alloc: Global,
+    editions: &Editions,
+    touches: &[Touch],
+    day: u32,
+) -> Result<String, AllocError>
+    requires { length touches.now ≤ MOST_TOUCHES }
+    ensures { IfOk result (λ text. string_bytes text ≡ text_of_touches editions.now touches.now day) }
+{
+    let journeys = rail_journeys(alloc, editions, touches)?;
+    let boardings = boardings_of(alloc, touches)?;
+    text_of_journeys(alloc, editions, &journeys, &boardings, day)
+}
+
+/// Why a service day was charged, by the accepted taps and corrections of an account: a line for each journey
+/// of that day, in the order of their first taps, and then those of its sums. An `Err` is out of memory.
+pub fn explained_day(
+    alloc: Global,
+    editions: &Editions,
+    taps: &TapSet,
+    fixes: &FixSet,
+    day: u32,
+) -> Result<String, AllocError>
+    ensures { IfOk result (λ text. string_bytes text ≡ explained_day editions.now (record { taps = taps.now; fixes = fixes.now }) day) }
+{
+    let touches = effective(alloc, taps, fixes)?;
+    text_of_touches(alloc, editions, &touches, day)
+}
