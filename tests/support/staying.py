@@ -52,3 +52,14 @@ def asked(peer, line, reply):
     """What a peer hears to a line, as many bytes as this reply has."""
     peer.sendall(line.encode())
     return answers(heard(peer, len(reply)))
+
+
+def line_heard(peer):
+    """A line that a peer hears, however long it is."""
+    line = b""
+    while not line.endswith(b"\n"):
+        byte = heard(peer, 1)
+        if not byte:
+            break
+        line += byte
+    return line

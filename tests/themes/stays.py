@@ -2,17 +2,22 @@
 
 import contextlib
 import os
+import resource
+import shutil
+import signal
 import socket
 import threading
 import time
 
-from support.journals import new_folder
+from support.journals import new_folder, with_both
 from support.kept import rows_of_ledger
-from support.running import MONDAY, RUN, SEVEN, answers, bytes_of, fault, heard, limited_to, run, written
+from support.running import (
+    MISSING, MONDAY, RUN, SEVEN, answers, bytes_of, fault, heard, limited_to, run, written,
+)
 from support.serving import (
     boarding, break_off, come_and_go, connected, ended, is_free, paid, rest_of, side_by_side, talk, talk_ahead,
 )
-from support.staying import asked, both_listening, staying, staying_words
+from support.staying import asked, both_listening, line_heard, staying, staying_words
 from support.theme import Theme
 
 CREDIT = "FIX 3 1 7 CREDIT 19730 25\n"
@@ -208,9 +213,7 @@ class Stays(Theme):
             # Lines around the word are answered in their places.
             staff[0].sendall(b"DUE 8 19730\nSTATS\n" + CREDIT.encode())
             came = heard(staff[0], len(due(8))).decode()
-            line = b""
-            while not line.endswith(b"\n"):
-                line += heard(staff[0], 1)
+            line = line_heard(staff[0])
             came += " ".join(it for it in line.decode().split(" ") if not it.startswith("seconds="))
             came += heard(staff[0], len(BOARDED)).decode()
             counts = "connections=17 connections_in_all=18 dropped=0 lines=10 accepted=2 again=1"
@@ -218,9 +221,7 @@ class Stays(Theme):
             self.check("what is counted", answers(came.encode()), answers(wanted.encode()))
             self.check_is("whether one more of staff is dropped", hears_nothing_more(connected(service.control)))
             staff[0].sendall(b"STATS\n")
-            line = b""
-            while not line.endswith(b"\n"):
-                line += heard(staff[0], 1)
+            line = line_heard(staff[0])
             self.check_is("whether that is counted", b" dropped=1 lines=11 accepted=3 " in line)
             staff.pop().close()
             time.sleep(0.3)
@@ -418,6 +419,207 @@ class Stays(Theme):
             wanted = service.wanted()
             errors = wanted.errors + f"farebox: cannot keep refused lines in {path}\n".encode()
             self.check("how it ends", service.stopped(), wanted._replace(errors=errors))
+
+    def check_copied(self, name, reply, path):
+        """The reply to a backup: the bytes of its files, which are their owner's alone."""
+        files = [it for it in (path, f"{path}-wal") if os.path.exists(it)]
+        self.check(f"the reply to {name}", answers(reply), answers(b"OK %d\n" % sum(map(os.path.getsize, files))))
+        self.check(f"who may read {name}", {os.stat(it).st_mode & 0o777 for it in files}, {0o600})
+
+    def backed_up(self, name, journals, staff, before="", after=""):
+        """A folder that is backed up as docs/OPERATIONS.md says, and the replies to lines beside the backup, which come
+        together with it."""
+        folder = new_folder(self.folder, name)
+        taps, path = new_folder(folder, "taps"), os.path.join(folder, "ledger.db")
+        shutil.copy(os.path.join(journals, "all.fares"), taps)
+        if os.path.exists(os.path.join(journals, "all.posted")):
+            shutil.copy(os.path.join(journals, "all.posted"), taps)
+        staff.sendall(f"{before}BACKUP {path}\n{after}".encode())
+        replies = b""
+        for _ in range(before.count("\n")):
+            while not replies.endswith(b"\nDONE %d 1\n" % MONDAY):
+                replies += line_heard(staff)
+        self.check_copied(name, line_heard(staff), path)
+        for number in range(16):
+            shutil.copy(path_of(journals, number), taps)
+        return folder, replies
+
+    def check_audit(self, name, folder, wanted=b""):
+        taps, path = os.path.join(folder, "taps"), os.path.join(folder, "ledger.db")
+        self.check(f"the audit of {name}", run(["audit", *RUN[1:], *with_both(taps, path)]), answers(wanted))
+
+    def check_rows(self, name, folder, *lines):
+        """That a copy has what the ledger of a session with these lines has."""
+        journal, other = os.path.join(self.folder, f"{name}.journal"), os.path.join(self.folder, f"{name}.other")
+        run([*RUN, *with_both(journal, other)], "".join((*lines, "QUIT\n")).encode())
+        self.check(f"the rows of {name}", rows_of_ledger(os.path.join(folder, "ledger.db")), rows_of_ledger(other))
+
+    def test_backups(self):
+        """BACKUP copies the ledger while the service goes on: before the first close, right after a close, right before
+        one, and with a log or without. A copy agrees with the journals, and a service goes on with it."""
+        journals, ledger = self.files()
+        close, later = "CLOSE 19730\n", f"TAP 1 2 7 {SEVEN + 9000} 50 BUS\n"
+        with staying(journals, ledger) as service:
+            with connected(service.port) as reader, connected(service.control) as staff:
+                self.check_talk("a reader", reader, ((boarding(7), BOARDED), ("BACKUP /tmp/a\n", "NO 50 BadLine\n")))
+                early, _ = self.backed_up("early", journals, staff)
+                first, replies = self.backed_up("first", journals, staff, before=close)
+                self.check("the close before it", answers(replies), answers(f"{paid(7)}DONE 19730 1\n".encode()))
+                self.check_talk("a reader", reader, ((later, "OK 19730 350 350\n"),))
+                second, _ = self.backed_up("second", journals, staff, after=close)
+                reply = f"PAY 7 {MONDAY} {MONDAY} 2 350 175 4=175\nDONE {MONDAY} 1\n"
+                self.check("the close after it", answers(heard(staff, len(reply))), answers(reply.encode()))
+                third, _ = self.backed_up("third", journals, staff)
+                # What has the service's ledger still is the service alone.
+                came = run(["audit", *RUN[1:], *with_both(journals, ledger)])
+                self.check("the service's own ledger", came, fault("43 Store"))
+                staff.sendall(b"STATS\n")
+                self.check_is("whether STATS counts no backup", b" lines=5 " in line_heard(staff))
+            self.check_stopped("how it ends", service)
+        with staying(journals, ledger) as service:
+            with connected(service.control) as staff:
+                fourth, _ = self.backed_up("fourth", journals, staff)
+            self.check_stopped("how the next ends", service)
+        self.check_rows("early", early)
+        self.check_rows("first", first, boarding(7), close)
+        self.check_rows("second", second, boarding(7), close)
+        unsettled = f"UNSETTLED 7 {MONDAY} {MONDAY} 350 175\nCLOSE 19730\n".encode()
+        for name, folder, wanted in (
+            ("early", early, b""), ("first", first, b""), ("second", second, unsettled), ("third", third, b""),
+            ("fourth", fourth, b""),
+        ):
+            self.check_audit(name, folder, wanted)
+        for name, folder in ("third", third), ("fourth", fourth):
+            self.check_rows(name, folder, boarding(7), close, later, close)
+        with staying(os.path.join(second, "taps"), os.path.join(second, "ledger.db")) as service:
+            with connected(service.control) as staff:
+                pairs = (boarding(7), AGAIN.replace("175", "350")), (close, reply)
+                self.check_talk("a service with a copy", staff, pairs)
+            self.check_stopped("how it ends", service)
+
+    def test_backups_while_taps_go_on(self):
+        """The ledger is copied again and again, between closes, while readers tap: each copy is whole, and the last has
+        all that was posted."""
+        journals, ledger = self.files()
+        copies = new_folder(self.folder, "copies")
+        each, paths = 50, [os.path.join(copies, str(number)) for number in range(4)]
+        with staying(journals, ledger, lanes=3, shards=4) as service:
+
+            def taps(first):
+                lines = [boarding(account).encode() for account in range(first, first + each)]
+                return lambda: talk_ahead(service.port, lines)
+
+            def backups():
+                return [
+                    talk(service.control, f"CLOSE {MONDAY}\nBACKUP {path}\nQUIT\n".encode()).splitlines()[-2]
+                    for path in paths
+                ]
+
+            *heard_by, replies = side_by_side([*map(taps, (1, 1 + each, 1 + 2 * each)), backups])
+            for number, came in enumerate(heard_by):
+                self.check(f"reader {number}", answers(came), answers(BOARDED.encode() * each + b"BYE\n"))
+            for path, reply in zip(paths, replies):
+                self.check_copied(os.path.basename(path), reply + b"\n", path)
+            last = os.path.join(copies, "last")
+            with connected(service.control) as staff:
+                staff.sendall(f"CLOSE {MONDAY}\nBACKUP {last}\n".encode())
+                while not line_heard(staff).startswith(b"DONE "):
+                    pass
+                self.check_copied("the last", line_heard(staff), last)
+            self.check_stopped("how it ends", service)
+        counts = []
+        for path in paths:
+            rows = rows_of_ledger(path).splitlines()
+            self.check(f"whether copy {os.path.basename(path)} is whole", rows[0], b"('ok',)")
+            counts.append(sum(row.endswith(b", 175, 175, 4)") for row in rows))
+        self.check("whether each has what those before it have", counts, sorted(counts))
+        self.check("what the last has", rows_of_ledger(last), rows_of_ledger(ledger))
+
+    def test_backups_that_cannot_be_made(self):
+        """A backup that is not made leaves what is there, makes nothing, and is told on standard error; and a line with
+        another path is no command."""
+        journals, ledger = self.files()
+        copies = new_folder(self.folder, "copies")
+        there, taken = written(copies, "there", b"mine"), os.path.join(copies, "taken")
+        written(copies, "taken-wal", b"mine")
+        os.symlink(os.path.join(copies, "nowhere"), os.path.join(copies, "link"))
+        exists, invalid = "File exists (os error 17)", "invalid input parameter"
+        missing, long = "No such file or directory (os error 2)", f"{MISSING}/{'a' * (120 - len(MISSING))}"
+        refused = (
+            (there, exists), (taken, exists), (new_folder(copies, "folder"), exists),
+            (os.path.join(copies, "link"), exists),
+            (f"{MISSING}/a.db", missing), (long, missing),
+            (ledger, invalid), (f"{ledger}-wal", invalid), (os.path.join(self.folder, "new.db"), invalid),
+            (path_of(journals, 1), invalid), (os.path.join(journals, "all.posted"), invalid),
+            (os.path.join(journals, "..", "new.db"), invalid),
+        )
+        # Its log is copied into a ledger that is stopped.
+        with staying(journals, ledger) as service:
+            with connected(service.control) as staff:
+                pairs = (boarding(7), BOARDED), ("CLOSE 19730\n", f"{paid(7)}DONE 19730 1\n")
+                self.check_talk("a close", staff, pairs)
+            self.check_stopped("how the first ends", service)
+        # So that a file which is too large for the system is no signal.
+        with staying(journals, ledger, **limited_to(1 << 30)) as service:
+            with connected(service.port) as reader, connected(service.control) as staff:
+                before = sorted(os.listdir(self.folder)), sorted(os.listdir(copies)), sorted(os.listdir(journals))
+                errors = ""
+                for path, why in refused:
+                    self.check_talk("a backup", staff, ((f"BACKUP {path}\n", "NO 53 NoBackup\n"),))
+                    errors += f"farebox: cannot back up to {path}: {why}\n"
+                for line in (
+                    "BACKUP", "BACKUP ", "BACKUP a.db", "BACKUP  /a.db", "BACKUP /a.db ", "BACKUP /a b", "BACKUP /a\t",
+                    "BACKUP /a.db\r", "BACKUP /\xe9", "BACKUP /\0", "backup /a.db", " BACKUP /a.db", f"BACKUP {long}a",
+                ):
+                    reply = "NO 51 LongLine\n" if len(line.encode()) > 128 else "NO 50 BadLine\n"
+                    self.check_talk("no backup", staff, ((f"{line}\n", reply),))
+                # A disk that is full, at the copy of the log and at that of the ledger.
+                full = os.path.join(copies, "full")
+                room = service.ran.pid, resource.RLIMIT_FSIZE
+                limits = resource.prlimit(*room)
+                self.check_is("whether the log is short", 40 < os.path.getsize(f"{ledger}-wal") < 500)
+                for count in 40, 500, os.path.getsize(ledger) - 1:
+                    resource.prlimit(*room, (count, limits[1]))
+                    self.check_talk(f"over {count} bytes", staff, ((f"BACKUP {full}\n", "NO 53 NoBackup\n"),))
+                    errors += f"farebox: cannot back up to {full}: File too large (os error 27)\n"
+                resource.prlimit(*room, limits)
+                after = sorted(os.listdir(self.folder)), sorted(os.listdir(copies)), sorted(os.listdir(journals))
+                self.check("what is made", after, before)
+                self.check("what was there", [bytes_of(there), bytes_of(f"{taken}-wal")], [b"mine"] * 2)
+                staff.sendall(f"BACKUP {full}\n".encode())
+                self.check_copied("the next", line_heard(staff), full)
+                self.check_talk("the service goes on", reader, ((boarding(8), BOARDED),))
+            came = service.stopped()
+        wanted = service.wanted()
+        self.check("how it ends", came, wanted._replace(errors=wanted.errors + errors.encode()))
+
+    def test_a_backup_that_is_cut_off(self):
+        """A service that is killed in the midst of a backup leaves what is no ledger, and goes on."""
+        journals, ledger = self.files()
+        path = os.path.join(new_folder(self.folder, "copies"), "cut")
+        with staying(journals, ledger) as service:
+            with connected(service.control) as staff:
+                pairs = (boarding(7), BOARDED), ("CLOSE 19730\n", f"{paid(7)}DONE 19730 1\n")
+                self.check_talk("a close", staff, pairs)
+            self.check_stopped("how the first ends", service)
+        size = os.path.getsize(ledger) // 2
+        with staying(journals, ledger) as service:
+            resource.prlimit(service.ran.pid, resource.RLIMIT_FSIZE, (size, size))
+            with connected(service.control) as staff:
+                staff.sendall(f"BACKUP {path}\n".encode())
+                self.check_is("whether there is no reply", hears_nothing_more(staff))
+            self.check("how it ends", ended(service.ran, service.said).status, -signal.SIGXFSZ)
+        self.check("how much is there", os.path.getsize(path), size)
+        self.check("its audit", run(["audit", *RUN[1:], *with_both(journals, path)]), fault("40 NotALedger"))
+        with staying(journals, ledger) as service:
+            with connected(service.control) as staff:
+                self.check_talk(
+                    "the next", staff,
+                    (
+                        (f"BACKUP {path}\n", "NO 53 NoBackup\n"), (boarding(7), AGAIN),
+                        ("CLOSE 19730\n", f"{paid(7)}DONE 19730 1\n"),
+                    ),
+                )
 
     def test_ports(self):
         """A port that is taken is a fault, before a line is answered; and both are free once a service has ended."""

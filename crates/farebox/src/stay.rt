@@ -4,8 +4,8 @@ ghost use Rattle.pay_words.specs.declared.limits.TheConstants.{MOST_SHARDS};
 
 use crate::serve::{compare_beside, keep_once_taken, report_in};
 use pay_files::{
-    CloseWatch, JournalFiles, KeptFares, LaneFiles, Ledgers, fares_text, noted_in, open_journals,
-    print_warnings, ready_ledger, settle_journals,
+    CloseWatch, JournalFiles, KeptFares, LaneFiles, Ledgers, StaffFiles, fares_text, memory_or,
+    noted_in, open_journals, print_warnings, ready_ledger, settle_journals,
 };
 use pay_jobs::{Alter, FaresAndZone, Fault, Keeper, Ledger};
 use pay_serve_job::{Aside, Given, Plan, Staying, stay};
@@ -42,7 +42,11 @@ where
         Ok(aside) => aside,
         Err(_) => return Ok(report_refused(&rt, words)),
     };
-    match stay_beside(rt, words, fares.as_str(), journals, aside) {
+    let staff_aside = match StaffFiles::beside(&aside, words.ledger, words.journal) {
+        Ok(aside) => aside,
+        Err(error) => return Err(memory_or(&error, Fault::CannotListen)),
+    };
+    match stay_beside(rt, words, fares.as_str(), journals, aside, staff_aside) {
         Ok(()) => Ok(ExitCode::SUCCESS),
         Err(Fault::JournalLineOf { journal, line, why }) => {
             report_in(&rt, words.journal, journal, line, why)
@@ -87,12 +91,13 @@ fn staying_of<'a>(words: &StayWords<'_>, stop: &'a Arc<AtomicBool>) -> Staying<'
 
 /// The same with the journals that are open, if the accounts come to the same by what is kept beside them. What was kept is on the disk
 /// when it ends.
-fn stay_beside<R, S: Alter + Drop, A>(
+fn stay_beside<R, S: Alter + Drop, A, B>(
     rt: R,
     words: &StayWords<'_>,
     fares: &str,
     journals: JournalFiles<R>,
     aside: A,
+    staff_aside: B,
 ) -> Result<(), Fault>
 where
     R: Net<Listener = TcpListener, Stream = TcpStream>
@@ -107,6 +112,7 @@ where
         + Send
         + 'static,
     A: Aside + Send + 'static,
+    B: Aside,
     requires keepers { length journals.keepers.items ≡ words.now.shards }
 {
     let JournalFiles {
@@ -131,18 +137,19 @@ where
         texts: texts.as_slice(),
         keepers,
     };
-    stay_in_file(rt, words, given, &failed, &kept, aside)?;
+    stay_in_file(rt, words, given, &failed, &kept, aside, staff_aside)?;
     settle_journals(&rt, words.journal, words.shards)
 }
 
 /// The same over the ledger in its file, with what is noted beside the journals.
-fn stay_in_file<R, K, S: Alter + Drop, A>(
+fn stay_in_file<R, K, S: Alter + Drop, A, B>(
     rt: R,
     words: &StayWords<'_>,
     given: Given<'_, K>,
     failed: &Arc<AtomicBool>,
     kept: &KeptFares,
     aside: A,
+    staff_aside: B,
 ) -> Result<(), Fault>
 where
     R: Net<Listener = TcpListener, Stream = TcpStream>
@@ -158,6 +165,7 @@ where
         + 'static,
     K: Keeper + Send + 'static,
     A: Aside + Send + 'static,
+    B: Aside,
     requires keepers { length given.keepers.items ≡ given.plan.shards }
 {
     let noted = noted_in(&rt, words.journal)?;
@@ -165,13 +173,23 @@ where
     ready_ledger(&rt, words.ledger)?;
     let watch = CloseWatch::begin(rt, words.zone, words.early, Some(noted))?;
     let mut ledger = rt.ledger(words.ledger)?;
-    let stayed = stay_watched(rt, words, given, failed, kept, &mut ledger, watch, aside);
+    let stayed = stay_watched(
+        rt,
+        words,
+        given,
+        failed,
+        kept,
+        &mut ledger,
+        watch,
+        aside,
+        staff_aside,
+    );
     rt.close(ledger);
     stayed
 }
 
 /// The same with the ledger, which has the posting that is noted.
-fn stay_watched<R, K, S: Alter, A>(
+fn stay_watched<R, K, S: Alter, A, B>(
     rt: R,
     words: &StayWords<'_>,
     given: Given<'_, K>,
@@ -180,6 +198,7 @@ fn stay_watched<R, K, S: Alter, A>(
     ledger: &mut Ledger<S>,
     mut watch: CloseWatch<R>,
     aside: A,
+    staff_aside: B,
 ) -> Result<(), Fault>
 where
     R: Net<Listener = TcpListener, Stream = TcpStream>
@@ -194,10 +213,20 @@ where
         + 'static,
     K: Keeper + Send + 'static,
     A: Aside + Send + 'static,
+    B: Aside,
     requires keepers { length given.keepers.items ≡ given.plan.shards }
 {
     watch.take(ledger)?;
     keep_once_taken(&rt, &given, ledger, kept)?;
     let staying = staying_of(words, failed);
-    stay(rt, rt.alloc(), given, staying, ledger, &mut watch, aside)
+    stay(
+        rt,
+        rt.alloc(),
+        given,
+        staying,
+        ledger,
+        &mut watch,
+        aside,
+        staff_aside,
+    )
 }

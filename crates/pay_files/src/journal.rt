@@ -254,12 +254,17 @@ fn make_new<R: Files<File = File>>(rt: &R, path: &str) -> io::Result<()> {
 
 /// The path of the log of a ledger. That lies beside the ledger's file, also where the ledger's path is a link to it.
 fn log_of<R: Files + AllocGlobal>(rt: &R, path: &str) -> Result<String, AllocError> {
-    let mut log = String::new(rt.alloc());
     match fs::canonicalize(rt, path) {
-        Ok(file) => write!(log, "{}-wal", file.as_str())?,
-        Err(error) if error.kind() == ErrorKind::OutOfMemory => return Err(AllocError),
-        Err(_) => write!(log, "{path}-wal")?,
+        Ok(file) => log_beside(rt.alloc(), file.as_str()),
+        Err(error) if error.kind() == ErrorKind::OutOfMemory => Err(AllocError),
+        Err(_) => log_beside(rt.alloc(), path),
     }
+}
+
+/// The path of the log beside a database file.
+pub(crate) fn log_beside(alloc: Global, file: &str) -> Result<String, AllocError> {
+    let mut log = String::new(alloc);
+    write!(log, "{file}-wal")?;
     Ok(log)
 }
 

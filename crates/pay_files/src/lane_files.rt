@@ -1,5 +1,6 @@
 //! What the lanes of a service do beside their lines, over files.
 
+use crate::backup::back_up;
 use crate::journal::{folder_of, open_or_make, place_of, settle_folder_of, settle_target};
 use crate::kept::copy_of;
 use pay_peers::Aside;
@@ -34,7 +35,11 @@ fn begins_well(file: &mut File) -> io::Result<bool> {
 }
 
 /// Whether a file at a path lies in a folder, or would.
-fn lies_in<R: Files + AllocGlobal>(rt: &R, path: &str, folder: &str) -> io::Result<bool> {
+pub(crate) fn lies_in<R: Files + AllocGlobal>(
+    rt: &R,
+    path: &str,
+    folder: &str,
+) -> io::Result<bool> {
     let place = place_of(rt, path)?;
     let folder = fs::canonicalize(rt, folder)?;
     Ok(folder_of(place.as_str()) == folder.as_str())
@@ -120,6 +125,10 @@ impl<R: Files<File = File> + AllocGlobal + Copy> LaneFiles<R> {
 }
 
 impl<R: Eprint + AllocGlobal + Copy> Aside for LaneFiles<R> {
+    ghost use Rattle.std.specs.Prelude.{⊤};
+
+    ghost Copies = { λ _ _ _ _. ⊤ };
+
     fn again(&self) -> io::Result<LaneFiles<R>> {
         let refused = match &self.refused {
             Some(refused) => Some(refused.again(&self.rt)?),
@@ -139,6 +148,65 @@ impl<R: Eprint + AllocGlobal + Copy> Aside for LaneFiles<R> {
         if let Some(refused) = &mut self.refused {
             if !refused.add(lines) {
                 refused.report(&self.rt);
+            }
+        }
+    }
+
+    fn back_up(&mut self, _: &[u8]) -> Option<u64> {
+        None
+    }
+}
+
+/// What the lane of staff does beside its lines: it copies the ledger too. Lanes in threads of their own make no files.
+#[derive(Drop)]
+pub struct StaffFiles<R> {
+    lane: LaneFiles<R>,
+    ledger: String,
+    journals: String,
+}
+
+impl<R: Eprint + AllocGlobal + Copy> StaffFiles<R> {
+    /// That of a service with this ledger and journals in this folder, beside what another of its lanes does.
+    pub fn beside(lane: &LaneFiles<R>, ledger: &str, journals: &str) -> io::Result<StaffFiles<R>> {
+        let alloc = lane.rt.alloc();
+        Ok(StaffFiles {
+            lane: lane.again()?,
+            ledger: copy_of(alloc, ledger)?,
+            journals: copy_of(alloc, journals)?,
+        })
+    }
+}
+
+/// Says why a ledger was not copied to a path.
+fn report_backup<R: Eprint>(rt: &R, path: &str, why: &io::Error) {
+    let _ = eprintln!(rt; "farebox: cannot back up to {path}: {why}");
+}
+
+impl<R: Files<File = File> + Eprint + AllocGlobal + Copy> Aside for StaffFiles<R> {
+    ghost use Rattle.std.specs.Prelude.{⊤};
+
+    ghost Copies = { λ _ _ _ _. ⊤ };
+
+    fn again(&self) -> io::Result<StaffFiles<R>> {
+        StaffFiles::beside(&self.lane, self.ledger.as_str(), self.journals.as_str())
+    }
+
+    fn keeps_refused(&self) -> bool {
+        self.lane.keeps_refused()
+    }
+
+    fn keep_refused(&mut self, lines: &[u8]) {
+        self.lane.keep_refused(lines);
+    }
+
+    fn back_up(&mut self, path: &[u8]) -> Option<u64> {
+        let path = str::from_utf8(path).ok()?;
+        let rt = &self.lane.rt;
+        match back_up(rt, self.ledger.as_str(), self.journals.as_str(), path) {
+            Ok(copied) => Some(copied),
+            Err(why) => {
+                report_backup(rt, path, &why);
+                None
             }
         }
     }

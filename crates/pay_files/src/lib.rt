@@ -3,6 +3,7 @@
 #![tactic(auto)]
 
 mod audit;
+mod backup;
 mod check;
 mod close_watch;
 mod errors;
@@ -23,7 +24,7 @@ pub use errors::memory_or;
 pub use input::{fares_text, print_warnings, report_line};
 pub use journal::{JournalFiles, open_journals, path_in, ready_ledger, settle_journals};
 pub use kept::{KeptFares, kept_in, noted_in};
-pub use lane_files::LaneFiles;
+pub use lane_files::{LaneFiles, StaffFiles};
 pub use ledgers::Ledgers;
 pub use noted::NotedPosting;
 pub use pay_ledger_files::new_ledger;

@@ -18,7 +18,7 @@ use Rattle.pay_peers.specs.contracts.tally.Seat as seat
 use Rattle.pay_peers.specs.contracts.tally.Tally as tallies
 use Rattle.pay_peers.proofs.tally.Tally.TheSendSync as tally
 use Rattle.pay_peers.proofs.refused.Refused.TheSendSync as refused
-use Rattle.pay_peers.proofs.word.Begun.TheSendSync as begun
+use Rattle.pay_peers.proofs.word.Line.TheSendSync as line
 
 Tally-send : IsSend tallies.the_row
 Tally-send = search (crosses, sendable) depth 20
@@ -30,7 +30,7 @@ Shared-send : IsSend shared.the_row
 Shared-send = search (Tally-send, tally.the_sync, crosses, sendable) depth 20
 
 Peer-send : IsSend peer.the_row
-Peer-send = search (Seat-send, begun.the_send, refused.the_send, conversation.the_send, stream.the_send, crosses, sendable) depth 20
+Peer-send = search (Seat-send, line.the_send, refused.the_send, conversation.the_send, stream.the_send, crosses, sendable) depth 20
 
 Peers-send : IsSend peers.the_row
 Peers-send = search (Peer-send, crosses, sendable) depth 14

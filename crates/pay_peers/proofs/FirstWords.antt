@@ -1,27 +1,41 @@
 -- The first word in bytes that are taken line by line.
-use Rattle.std.proofs.Common.{◌≡◌, ℕ, Bool, true, false, ◌||◌, eqb, if◌then◌else◌, List, [], ◌∷◌, ◌++◌, ◌-◌, length, take, drop, Option, Some, None, ap, sym, subst, ◌∙◌, refl, append_assoc, append-nil, length-append, arith}
+use Rattle.std.proofs.Common.{◌≡◌, ◌≢◌, ◌<◌, ◌≤◌, nat_le, take_all, ℕ, Bool, true, false, ◌||◌, ◌&&◌, codes, eqb, if◌then◌else◌, List, [], ◌∷◌, ◌++◌, ◌-◌, length, take, drop, Option, Some, None, Result, Ok, IfOk, ap, sym, subst, ◌∙◌, refl, append_assoc, append-nil, length-append, arith}
 use Rattle.std.specs.Option.{is_some}
-use Rattle.std.proofs.lemmas.List.{take-append-drop, drop_at}
+use Rattle.std.specs.Str.{bytes_eq}
+use Rattle.std.proofs.lemmas.Bool.{leb-true, leb-false}
+use Rattle.std.proofs.lemmas.List.{length-take-le, take-append-drop, drop_at}
 use Rattle.pay_session.specs.Requests.{has_newline}
 use Rattle.pay_session.specs.declared.port.Role.{Role}
 use Rattle.pay_session.specs.declared.port.Role.TheVariants.{Taps, All}
 use Rattle.pay_peers.specs.declared.word.Word.{Word}
-use Rattle.pay_peers.specs.Lines.{word_of, word_at, found, first_word, IsTaken}
-use Rattle.pay_peers.proofs.Kept.{front_alone, kept_more}
+use Rattle.pay_peers.specs.declared.word.Word.TheVariants.{Backup}
+use Rattle.pay_peers.specs.Lines.{is_path, backup_of, word_of, word_at, found, first_word, IsTaken, Hears}
+use Rattle.pay_peers.specs.Fates.{word_in}
+use Rattle.pay_peers.specs.declared.fate.Fate.{Fate}
+use Rattle.pay_peers.specs.declared.fate.Fate.TheVariants.{Waits, GoesOn, Asks, Ends}
+use Rattle.pay_peers.proofs.Kept.{kept_more}
 
--- what is kept of a line tells its word
-word_of_kept : (line : List ℕ) → word_of (take 6 line) ≡ word_of line
-word_of_kept [] = refl
-word_of_kept (a ∷ []) = refl
-word_of_kept (a ∷ b ∷ []) = refl
-word_of_kept (a ∷ b ∷ c ∷ []) = refl
-word_of_kept (a ∷ b ∷ c ∷ d ∷ []) = refl
-word_of_kept (a ∷ b ∷ c ∷ d ∷ e ∷ []) = refl
-word_of_kept (a ∷ b ∷ c ∷ d ∷ e ∷ f ∷ rest) = refl
+-- what is kept of a line tells its word: all of a line that may be one, and of a longer one too much for any
+kept_by_length : (line : List ℕ) (b : Bool) → nat_le (length line) 128 ≡ b → word_at All (take 129 line) ≡ word_at All line
+kept_by_length line true e = ap (word_at All) (take_all 129 line (omega (arith, leb-true (length line) 128 e)))
+kept_by_length line false e =
+    let long : 128 < length line = leb-false (length line) 128 e in
+    let size : length (take 129 line) ≡ 129 = length-take-le 129 line (omega (arith, long)) in
+    ap (λ n. if nat_le n 128 then word_of (take 129 line) else None) size ∙ sym (ap (λ b. if b then word_of line else None) e)
 
 pub word_kept : (role : Role) (line : List ℕ) → word_at role (take 129 line) ≡ word_at role line
 word_kept Taps line = refl
-word_kept All line = sym (word_of_kept (take 129 line)) ∙ ap word_of (front_alone 6 129 line (omega arith)) ∙ word_of_kept line
+word_kept All line = kept_by_length line (nat_le (length line) 128) refl
+
+-- a line asks for a backup to what stands behind its first word
+pub asks_for : (line kept : List ℕ) → bytes_eq (take 7 line) (codes "BACKUP ") ≡ true → is_path (drop 7 line) ≡ true → kept ≡ drop 7 line
+    → Some (Backup kept) ≡ backup_of line
+asks_for line kept begins path same =
+    ap (λ (p : List ℕ). Some (Backup p)) same
+    ∙ sym (
+    ap (λ (b : Bool). if b && is_path (drop 7 line) then Some (Backup (drop 7 line)) else None) begins
+    ∙ ap (λ (b : Bool). if b then Some (Backup (drop 7 line)) else None) path
+    )
 
 pub first_kept : (role : Role) (begun bytes : List ℕ) → first_word role (take 129 begun) bytes ≡ first_word role begun bytes
 first_kept role begun [] = refl
@@ -118,3 +132,86 @@ line_first bytes text behind cut =
     let size : length line ≡ n = omega (arith, ap length whole, length-append line behind) in
     let rest : drop n bytes ≡ behind = ap (drop n) whole ∙ drop_at line behind n size in
     sym (take-append-drop n bytes) ∙ ap (λ later. take n bytes ++ later) rest
+
+-- what a turn hears, step by step
+pub none_in : (fate : Fate) → ((word : Word) → fate ≡ Asks word → ⊥) → None ≡ word_in fate
+none_in Waits none = refl
+none_in GoesOn none = refl
+none_in (Asks word) none = absurd (none word refl)
+none_in Ends none = refl
+
+-- something more comes behind what is left
+taken_more : (role : Role) (begun piece kept rest more : List ℕ) → IsTaken role begun piece None kept rest → IsTaken role begun (piece ++ more) None kept (rest ++ more)
+taken_more role begun piece kept rest more is = record {
+  front = is.front;
+  cut = ap (λ l. l ++ more) is.cut ∙ append_assoc is.front rest more;
+  found = λ w e. absurd (let same : None ≡ Some w = e in cc);
+  goes_on = λ _ m. is.goes_on refl m;
+}
+
+pub heard_pending : (role : Role) (begun pending kept left : List ℕ) (word : Option Word) → IsTaken role begun pending word kept left
+    → Hears role word (begun, pending) (kept, left)
+heard_pending role begun pending kept left word is =
+    let P : List ℕ → Type 0 = λ piece. IsTaken role begun piece word kept left in
+    record { came = []; taken = subst P (sym (append-nil pending)) is }
+
+pub heard_read : (role : Role) (begun pending piece kept left : List ℕ) (word : Option Word) → pending ≡ [] → IsTaken role begun piece word kept left
+    → Hears role word (begun, pending) (kept, left)
+heard_read role begun pending piece kept left word none is =
+    let P : List ℕ → Type 0 = λ before. IsTaken role begun (before ++ piece) word kept left in
+    record { came = piece; taken = subst P (sym none) is }
+
+-- the same by what taking the lines of a piece came to
+pub heard_by : {E : Type 0} (role : Role) (begun pending piece kept left : List ℕ) (fate : Fate) (taken : Result (Option Word) E) (over : Bool) → pending ≡ []
+    → taken ≡ Ok (word_in fate) → IfOk taken (λ word. over ≡ false → IsTaken role begun piece word kept left) → over ≡ false
+    → Hears role (word_in fate) (begun, pending) (kept, left)
+heard_by {E} role begun pending piece kept left fate taken over none whole is lasts =
+    let P : Result (Option Word) E → Type 0 = λ came. IfOk came (λ word. over ≡ false → IsTaken role begun piece word kept left) in
+    heard_read role begun pending piece kept left (word_in fate) none (subst P whole is lasts)
+
+-- what it began with was left so by another call
+pub heard_from : (role : Role) (begun pending first waits kept left : List ℕ) (word : Option Word) → first ≡ begun → waits ≡ pending
+    → Hears role word (first, waits) (kept, left) → Hears role word (begun, pending) (kept, left)
+heard_from role begun pending first waits kept left word same rest is =
+    let P : List ℕ → Type 0 = λ b. Hears role word (b, waits) (kept, left) in
+    let Q : List ℕ → Type 0 = λ p. Hears role word (begun, p) (kept, left) in
+    subst Q rest (subst P same is)
+
+-- nothing is heard by a call that leaves both as they were
+pub heard_nothing : (role : Role) (begun pending kept left : List ℕ) (fate : Fate) → ((word : Word) → fate ≡ Asks word → ⊥) → kept ≡ begun → left ≡ pending
+    → Hears role (word_in fate) (begun, pending) (kept, left)
+heard_nothing role begun pending kept left fate none same rest =
+    let P : Option Word → Type 0 = λ word. IsTaken role begun pending word kept left in
+    heard_pending role begun pending kept left (word_in fate) (subst P (none_in fate none) (still_taken role begun pending begun kept pending left None (none_taken role begun pending) same rest))
+
+-- one after the other
+pub heard_then : (role : Role) (begun pending kept rest later left : List ℕ) (word : Option Word) → Hears role None (begun, pending) (kept, rest)
+    → Hears role word (kept, rest) (later, left) → Hears role word (begun, pending) (later, left)
+heard_then role begun pending kept rest later left word first next =
+    let P : List ℕ → Type 0 = λ piece. IsTaken role begun piece word later left in
+    record {
+      came = first.came ++ next.came;
+      taken = subst P (append_assoc pending first.came next.came) (
+          taken_then role begun ((pending ++ first.came) ++ next.came) kept (rest ++ next.came) later left word
+          (taken_more role begun (pending ++ first.came) kept rest next.came first.taken)
+          next.taken
+          );
+    }
+
+-- a step of a turn, behind what was heard before it
+pub heard_on : (role : Role) (begun pending kept rest later left : List ℕ) (fate : Fate) (before after : Bool)
+    → (before ≡ false → Hears role None (begun, pending) (kept, rest)) → (after ≡ false → before ≡ false)
+    → (fate ≢ Ends → after ≡ false → Hears role (word_in fate) (kept, rest) (later, left)) → fate ≢ Ends → after ≡ false
+    → Hears role (word_in fate) (begun, pending) (later, left)
+heard_on role begun pending kept rest later left fate before after first opened next lasts still =
+    heard_then role begun pending kept rest later left (word_in fate) (first (opened still)) (next lasts still)
+
+-- after which the turn goes on
+pub heard_so_far : (role : Role) (begun pending kept rest later left : List ℕ) (fate : Fate) (before after : Bool) → fate ≡ GoesOn
+    → (before ≡ false → Hears role None (begun, pending) (kept, rest)) → (after ≡ false → before ≡ false)
+    → (fate ≢ Ends → after ≡ false → Hears role (word_in fate) (kept, rest) (later, left)) → after ≡ false
+    → Hears role None (begun, pending) (later, left)
+heard_so_far role begun pending kept rest later left fate before after is first opened next still =
+    let P : Fate → Type 0 = λ f. Hears role (word_in f) (begun, pending) (later, left) in
+    let lasts : fate ≢ Ends = λ ends. absurd (let same : GoesOn ≡ Ends = sym is ∙ ends in cc) in
+    subst P is (heard_on role begun pending kept rest later left fate before after first opened next lasts still)

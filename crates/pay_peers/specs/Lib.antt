@@ -1,3 +1,4 @@
+pub mod Backups
 pub mod Fates
 pub mod Lines
 pub mod Refused

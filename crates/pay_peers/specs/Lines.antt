@@ -1,5 +1,7 @@
 -- The lines that are words of staff's own, and where the first of them stands in the bytes that come.
-use Rattle.std.specs.Prelude.{◌≡◌, ℕ, ◌==◌, List, [], ◌∷◌, ◌++◌, codes, Option, Some, None, Result, if◌then◌else◌, refl}
+use Rattle.std.specs.Prelude.{◌≡◌, ℕ, ◌==◌, ◌&&◌, nat_eq, nat_le, Bool, List, [], ◌∷◌, ◌++◌, length, take, drop, replicate, codes, Option, Some, None, Result, if◌then◌else◌, refl}
+use Rattle.std.specs.Char.{is_ascii_graphic}
+use Rattle.std.specs.List.{list_all, starts_with}
 use Rattle.std.specs.Str.{bytes_eq}
 use Rattle.pay_rules.specs.declared.posting.Posting.{Posting}
 use Rattle.pay_shard.specs.Words.{DeskParts}
@@ -10,19 +12,27 @@ use Rattle.pay_session.specs.declared.port.Port.{Port}
 use Rattle.pay_session.specs.declared.port.Role.{Role}
 use Rattle.pay_session.specs.declared.port.Role.TheVariants.{Taps, All}
 use Rattle.pay_peers.specs.declared.word.Word.{Word}
-use Rattle.pay_peers.specs.declared.word.Word.TheVariants.{Stop, Stats}
+use Rattle.pay_peers.specs.declared.word.Word.TheVariants.{Stop, Stats, Backup}
+
+-- bytes are a path from the root: each is printable ASCII, and none a space
+unfoldable pub is_path : List ℕ → Bool
+is_path bytes = starts_with nat_eq bytes (codes "/") && list_all is_ascii_graphic bytes
+
+-- the backup for which a line asks
+abbrev pub backup_of : List ℕ → Option Word
+backup_of line = if bytes_eq (take 7 line) (codes "BACKUP ") && is_path (drop 7 line) then Some (Backup (drop 7 line)) else None
 
 -- the word of staff that a line is
 abbrev pub word_of : List ℕ → Option Word
 word_of line =
     if bytes_eq line (codes "STOP") then Some Stop
     else if bytes_eq line (codes "STATS") then Some Stats
-    else None
+    else backup_of line
 
--- the word that a line is at a port: at that of readers and customers none is
+-- the word that a line is at a port: at that of readers and customers none is, and no line of more than 128 bytes
 abbrev pub word_at : Role → List ℕ → Option Word
 word_at Taps line = None
-word_at All line = word_of line
+word_at All line = if nat_le (length line) 128 then word_of line else None
 
 -- a word with what stands behind its line; where the line is none, what is found behind it
 abbrev pub found : Option Word → List ℕ → Option (Word × List ℕ) → Option (Word × List ℕ)
@@ -42,6 +52,12 @@ pub record IsTaken (role : Role) (begun piece : List ℕ) (word : Option Word) (
   pub cut : piece ≡ front ++ pending
   pub found : (w : Word) → word ≡ Some w → first_word role begun front ≡ Some (w, [])
   pub goes_on : word ≡ None → (more : List ℕ) → first_word role begun (front ++ more) ≡ first_word role kept more
+
+-- A connection at a port took a front of what was pending and of what came behind that. The pairs have the begun line and what is pending,
+-- before and after.
+pub record Hears (role : Role) (word : Option Word) (before after : List ℕ × List ℕ) : Type 0 where
+  pub came : List ℕ
+  pub taken : IsTaken role before.0 (before.1 ++ came) word after.0 after.1
 
 -- The session answers a front of some bytes, as a piece, and nothing of what stands behind it: at a port, from before to after.
 module _ {D O T : Type 0} (parts : D → DeskParts O) (Closes : T → ℕ → ℕ → List Taken → Result (List Posting) Refusal → T → Type 0) (port : Port) where
@@ -68,5 +84,23 @@ unended : first_word All [] (codes "STOP") ≡ None
 unended = refl
 
 -- a reader's word is none
-of_a_reader : first_word Taps [] (codes "STOP\nSTATS\n") ≡ None
+of_a_reader : first_word Taps [] (codes "STOP\nSTATS\nBACKUP /backup/a.db\n") ≡ None
 of_a_reader = refl
+
+backup : first_word All [] (codes "BACKUP /backup/ledger-2024-01-08.db\nQUIT\n") ≡ Some (Backup (codes "/backup/ledger-2024-01-08.db"), codes "QUIT\n")
+unfolding is_path
+backup = refl
+
+-- without a path, with one that is not from the root, with two, or with a space, a carriage return or another letter in it, it is none
+no_path : first_word All [] (codes "BACKUP\nBACKUP \nBACKUP a.db\nBACKUP  /a\nBACKUP /a /b\nBACKUP /a \nBACKUP /a\r\nBACKUP /é\nbackup /a\n") ≡ None
+unfolding is_path
+no_path = refl
+
+-- the longest path, and one byte more
+longest : word_at All (codes "BACKUP /" ++ replicate 120 97) ≡ Some (Backup (codes "/" ++ replicate 120 97))
+unfolding is_path
+longest = refl
+
+too_long : word_at All (codes "BACKUP /" ++ replicate 121 97) ≡ None
+unfolding is_path
+too_long = refl

@@ -1,9 +1,13 @@
 //! What a lane does beside its lines.
+ghost use Rattle.std.specs.Prelude.{ℕ, List, Option};
 
 use std::io;
 
 /// What a lane does beside its lines. Each lane has one of its own, and all are of the same files.
 pub trait Aside: Drop {
+    /// That the ledger was to be copied: what did it as it was before, the path, how many bytes were copied, and it after that.
+    ghost Copies: { Self → List ℕ → Option ℕ → Self → Type 0 };
+
     /// One more, for another lane.
     fn again(&self) -> io::Result<Self>;
 
@@ -12,4 +16,9 @@ pub trait Aside: Drop {
 
     /// Keeps refused lines, each with its newline. Where it cannot, it says so.
     fn keep_refused(&mut self, lines: &[u8]);
+
+    /// Copies the ledger, to which nothing is posted meanwhile, to a new file at a path, and its log beside that. How many bytes were
+    /// copied. Where it cannot, it says so, and leaves nothing there. Only the lane of staff is asked for this.
+    fn back_up(&mut self, path: &[u8]) -> Option<u64>
+        ensures { Copies self.old path.now result self.new };
 }

@@ -7,7 +7,7 @@ use std::io;
 use std::io::ErrorKind;
 
 /// What becomes of a connection after its turn.
-#[derive(Clone, Copy, Debug, PartialEq, Eq)]
+#[derive(Drop)]
 pub enum Fate {
     /// It waits until there is more to read, or room to write.
     Waits,

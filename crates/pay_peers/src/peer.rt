@@ -1,25 +1,27 @@
 //! A connection that is held.
-ghost use Rattle.std.specs.Prelude.{◌≡◌, ◌≢◌, ◌<◌, ◌++◌, IsTrue, true, false, [], length, drop, OnOk, IfOk, IfSome};
+ghost use Rattle.std.specs.Prelude.{◌≡◌, ◌≢◌, ◌<◌, string_bytes, ◌++◌, ℕ, Option, IsTrue, true, false, [], length, drop, OnOk, IfOk, OnSome, IfSome};
 ghost use Rattle.pay_session.specs.Requests.{has_newline};
 ghost use Rattle.pay_session.specs.Words.{HasAnsweredAt, TakesPiece};
 ghost use Rattle.pay_session.specs.declared.port.Role.TheVariants as roles;
+ghost use Rattle.pay_peers.specs.Backups.{backup_reply};
 ghost use Rattle.pay_peers.specs.Fates.{word_in};
-ghost use Rattle.pay_peers.specs.Lines.{IsTaken, AnswersFront};
+ghost use Rattle.pay_peers.specs.Lines.{IsTaken, Hears, AnswersFront};
 ghost use Rattle.pay_peers.specs.Refused.{NotesLine, noted};
 ghost use Rattle.pay_peers.specs.declared.word.Word.{Word};
 
+use crate::aside::Aside;
 use crate::fate::{Fate, fate_of};
 use crate::limits::{LAST_READS, MOST_UNSENT, TURN_PIECES};
 use crate::refused::Refused;
 use crate::sending::{empty, send};
 use crate::tally::Seat;
-use crate::word::{Begun, Word};
+use crate::word::{Line, Word};
 use mio::net::TcpStream;
 use pay_session::{Conversation, Port, cut};
 use pay_shard::Desk;
 use pay_till::Till;
 use pay_wire::WriteFault;
-use std::alloc::Global;
+use std::alloc::{AllocError, Global};
 use std::io::{ErrorKind, Read};
 use std::net::Shutdown;
 
@@ -30,7 +32,7 @@ pub struct Peer {
     seat: Seat,
     conversation: Conversation,
     // What the conversation was given of a line that has not ended, as far as a line may go.
-    begun: Begun,
+    begun: Line,
     /// Its lines that were refused, and are to be kept before their replies leave.
     pub refused: Refused,
     unsent: Vec<u8>,
@@ -65,6 +67,16 @@ fn fate_after(taken: Result<Option<Word>, WriteFault>) -> Fate
     }
 }
 
+/// The reply to a backup, with its newline, by how many bytes were copied.
+fn backup_reply(alloc: Global, copied: Option<u64>) -> Result<String, AllocError>
+    ensures { IfOk result (λ reply. string_bytes reply ≡ backup_reply copied) }
+{
+    match copied {
+        Some(bytes) => format!(in alloc; "OK {bytes}\n"),
+        None => String::from_str(alloc, "NO 53 NoBackup\n"),
+    }
+}
+
 impl Peer {
     /// A connection on which nothing was read or written.
     pub fn new(alloc: Global, stream: TcpStream, seat: Seat) -> Peer
@@ -75,7 +87,7 @@ impl Peer {
             stream,
             seat,
             conversation: Conversation::new(),
-            begun: Begun::new(),
+            begun: Line::new(),
             refused: Refused::new(alloc),
             unsent: Vec::new(alloc),
             sent: 0,
@@ -90,14 +102,29 @@ impl Peer {
 
     /// Sends what has not left, as far as there is room. Where it goes on, all has left, or there may be room at once.
     fn send(&mut self) -> Fate
+        ensures begun { self.new.begun ≡ self.old.begun }
+        ensures pending { self.new.pending.items ≡ self.old.pending.items }
+        ensures over { self.new.over ≡ self.old.over }
         ensures no_word { (word : Word) → result ≡ Fate.Asks word → ⊥ }
     {
         send(&mut &self.stream, &mut self.unsent, &mut self.sent)
     }
 
     /// Says a line to the peer that is no reply of the session.
-    pub fn say(&mut self, line: &[u8]) -> Option<()> {
+    pub fn say(&mut self, line: &[u8]) -> Option<()>
+        ensures { OnSome result (self.new.unsent.items ≡ self.old.unsent.items ++ line.now) }
+    {
         self.unsent.extend_from_slice(line).ok()
+    }
+
+    /// Has the ledger copied to a path, and says what came of it.
+    pub fn back_up<A: Aside>(&mut self, alloc: Global, path: &[u8], aside: &mut A) -> Option<()>
+        ensures { (copied : Option ℕ) × A.Copies aside.old path.now copied aside.new
+            × OnSome result (self.new.unsent.items ≡ self.old.unsent.items ++ backup_reply copied) }
+    {
+        let copied = aside.back_up(path);
+        let reply = backup_reply(alloc, copied).ok()?;
+        self.say(reply.as_bytes())
     }
 
     /// Says that the service ends. No more lines are taken.
@@ -145,6 +172,7 @@ impl Peer {
         ensures same_till { T.origin till.new ≡ T.origin till.old }
         ensures begun { self.new.begun ≡ self.old.begun }
         ensures pending { self.new.pending.items ≡ self.old.pending.items }
+        ensures over { self.new.over ≡ false → self.old.over ≡ false }
         ensures answered { OnOk result (self.new.over ≡ false → TakesPiece D.parts T.Closes port.entry part.now
             (desk.old, till.old, self.old.conversation, Some self.old.unsent.items) (desk.new, till.new, self.new.conversation, Some self.new.unsent.items)) }
         ensures instant { self.new.refused.instant ≡ self.old.refused.instant }
@@ -174,6 +202,7 @@ impl Peer {
         ensures taken { IfOk result (λ taken. IsTaken port.entry.role self.old.begun bytes.now taken.0 self.new.begun taken.1.now) }
         ensures answered { IfOk result (λ taken. taken.0 ≡ None → self.new.over ≡ false → AnswersFront D.parts T.Closes port.entry bytes.now taken.1.now
             (desk.old, till.old, self.old.conversation, Some self.old.unsent.items) (desk.new, till.new, self.new.conversation, Some self.new.unsent.items)) }
+        ensures over { self.new.over ≡ false → self.old.over ≡ false }
         ensures anew { IfOk result (λ taken. IfSome taken.0 (λ _. self.new.conversation ≡ [])) }
         ensures untouched { IfOk result (λ taken. IfSome taken.0 (λ _. (desk.new ≡ desk.old) × (till.new ≡ till.old) × (self.new.unsent.items ≡ self.old.unsent.items))) }
         ensures shorter { IfOk result (λ taken. 0 < length bytes.now → length taken.1.now < length bytes.now) }
@@ -234,6 +263,7 @@ impl Peer {
         ensures served { HasAnsweredAt D.parts T.Closes (port.entry.zone.now, port.entry.role) (desk.old, till.old) (desk.new, till.new) }
         ensures same_till { T.origin till.new ≡ T.origin till.old }
         ensures staff { IfOk result (λ word. IfSome word (λ _. port.entry.role ≡ roles.All)) }
+        ensures over { self.new.over ≡ false → self.old.over ≡ false }
         ensures taken { IfOk result (λ word. self.new.over ≡ false → IsTaken port.entry.role self.old.begun piece.now word self.new.begun self.new.pending.items) }
     {
         pay_session::laws::piece_by_piece::<D, T>();
@@ -259,6 +289,7 @@ impl Peer {
     ) -> Result<(), WriteFault>
         ensures served { HasAnsweredAt D.parts T.Closes (port.entry.zone.now, port.entry.role) (desk.old, till.old) (desk.new, till.new) }
         ensures same_till { T.origin till.new ≡ T.origin till.old }
+        ensures over { self.new.over ≡ true }
     {
         self.over = true;
         let before = self.unsent.len();
@@ -278,6 +309,8 @@ impl Peer {
         ensures served { HasAnsweredAt D.parts T.Closes (port.entry.zone.now, port.entry.role) (desk.old, till.old) (desk.new, till.new) }
         ensures same_till { T.origin till.new ≡ T.origin till.old }
         ensures staff { IfOk result (λ word. IfSome word (λ _. port.entry.role ≡ roles.All)) }
+        ensures over { self.new.over ≡ false → self.old.over ≡ false }
+        ensures taken { IfOk result (λ word. self.new.over ≡ false → IsTaken port.entry.role self.old.begun piece.now word self.new.begun self.new.pending.items) }
     {
         if !piece.is_empty() {
             return self.take_lines(piece, port, desk, till);
@@ -298,6 +331,8 @@ impl Peer {
         ensures served { HasAnsweredAt D.parts T.Closes (port.entry.zone.now, port.entry.role) (desk.old, till.old) (desk.new, till.new) }
         ensures same_till { T.origin till.new ≡ T.origin till.old }
         ensures staff { (word : Word) → result ≡ Fate.Asks word → port.entry.role ≡ roles.All }
+        ensures over { self.new.over ≡ false → self.old.over ≡ false }
+        ensures heard { result ≢ Fate.Ends → self.new.over ≡ false → Hears port.entry.role (word_in result) (self.old.begun, self.old.pending.items) (self.new.begun, self.new.pending.items) }
     {
         pay_session::laws::piece_by_piece::<D, T>();
         let count = match (&self.stream).read(buffer) {
@@ -318,6 +353,7 @@ impl Peer {
         ensures served { HasAnsweredAt D.parts T.Closes (port.entry.zone.now, port.entry.role) (desk.old, till.old) (desk.new, till.new) }
         ensures same_till { T.origin till.new ≡ T.origin till.old }
         ensures staff { (word : Word) → result ≡ Fate.Asks word → port.entry.role ≡ roles.All }
+        ensures over { self.new.over ≡ false → self.old.over ≡ false }
         ensures taken { result ≢ Fate.Ends → self.new.over ≡ false
             → IsTaken port.entry.role self.old.begun self.old.pending.items (word_in result) self.new.begun self.new.pending.items }
     {
@@ -334,6 +370,9 @@ impl Peer {
     /// Says that no more comes, and takes what the peer still sends: bytes that nobody has taken when a stream is dropped make the system
     /// break the connection, and the peer may lose replies by it.
     fn part(&mut self, buffer: &mut [u8]) -> Fate
+        ensures begun { self.new.begun ≡ self.old.begun }
+        ensures pending { self.new.pending.items ≡ self.old.pending.items }
+        ensures over { self.new.over ≡ self.old.over }
         ensures no_word { (word : Word) → result ≡ Fate.Asks word → ⊥ }
     {
         if !self.told {
@@ -375,6 +414,8 @@ impl Peer {
         ensures served { HasAnsweredAt D.parts T.Closes (port.entry.zone.now, port.entry.role) (desk.old, till.old) (desk.new, till.new) }
         ensures same_till { T.origin till.new ≡ T.origin till.old }
         ensures staff { (word : Word) → result ≡ Fate.Asks word → port.entry.role ≡ roles.All }
+        ensures over { self.new.over ≡ false → self.old.over ≡ false }
+        ensures heard { result ≢ Fate.Ends → self.new.over ≡ false → Hears port.entry.role (word_in result) (self.old.begun, self.old.pending.items) (self.new.begun, self.new.pending.items) }
     {
         pay_session::laws::piece_by_piece::<D, T>();
         match self.send() {
@@ -405,6 +446,8 @@ impl Peer {
         ensures served { HasAnsweredAt D.parts T.Closes (port.entry.zone.now, port.entry.role) (desk.old, till.old) (desk.new, till.new) }
         ensures same_till { T.origin till.new ≡ T.origin till.old }
         ensures staff { (word : Word) → result ≡ Fate.Asks word → port.entry.role ≡ roles.All }
+        ensures over { self.new.over ≡ false → self.old.over ≡ false }
+        ensures heard { result ≢ Fate.Ends → self.new.over ≡ false → Hears port.entry.role (word_in result) (self.old.begun, self.old.pending.items) (self.new.begun, self.new.pending.items) }
     {
         pay_session::laws::piece_by_piece::<D, T>();
         for _ in 0..TURN_PIECES {

@@ -30,8 +30,9 @@ pub struct Ports {
     pub staff: u16,
 }
 
-/// A port for staff. Two lines are words of this port alone, and none of a session. `STOP` ends the
-/// service. `STATS` is answered by one line, `STATS seconds=9 connections=2 connections_in_all=5 dropped=0 lines=7 accepted=3 again=1`,
+/// A port for staff. Three lines are words of this port alone, and none of a session. `STOP` ends the service. `BACKUP /backup/a.db` has
+/// the ledger copied to that path, and is answered by `OK 45056`, the bytes that were copied, or by `NO 53 NoBackup`. `STATS` is answered
+/// by one line, `STATS seconds=9 connections=2 connections_in_all=5 dropped=0 lines=7 accepted=3 again=1`,
 /// and then ` refused_20=1` for each number of a refusal that occurred, by rising number. It says of all lanes together:
 ///
 /// - `seconds`: for how long this port has been served;

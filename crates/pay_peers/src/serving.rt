@@ -1,7 +1,8 @@
 //! A port, with the connections that came there to one lane.
-ghost use Rattle.std.specs.Prelude.{◌≡◌, []};
+ghost use Rattle.std.specs.Prelude.{◌≡◌, [], OnSome};
 ghost use Rattle.pay_serve.specs.Words.{HasShards};
 ghost use Rattle.pay_session.specs.Words.{HasAnsweredAt};
+ghost use Rattle.pay_peers.specs.Backups.{IsAsked};
 ghost use Rattle.pay_peers.specs.declared.word.Word.{Word};
 ghost use Rattle.pay_session.specs.declared.port.Role.TheVariants as roles;
 
@@ -160,6 +161,7 @@ impl<C: Clock, A: Aside> Serving<C, A> {
     /// Does what staff ask of the service by the connection at a place. There is nothing where memory runs out.
     fn obey(&mut self, place: usize, word: Word, role: Role) -> Option<()>
         requires { role ≡ roles.All }
+        ensures asked { OnSome result (IsAsked A.Copies word self.old.aside self.new.aside) }
     {
         match (role, word) {
             (Role::Taps, _) => unreachable!(),
@@ -168,8 +170,13 @@ impl<C: Clock, A: Aside> Serving<C, A> {
                 self.peers.at(place)?.say_bye()
             }
             (Role::All, Word::Stats) => {
-                let line = self.shared.tally.line(self.alloc, self.seconds()).ok()?;
+                let seconds = self.seconds();
+                let line = self.shared.tally.line(self.alloc, seconds).ok()?;
                 self.peers.at(place)?.say(line.as_bytes())
+            }
+            (Role::All, Word::Backup(path)) => {
+                let peer = self.peers.at(place)?;
+                peer.back_up(self.alloc, path.text(), &mut self.aside)
             }
         }
     }

@@ -1,18 +1,51 @@
 //! The words of staff's port, which no session knows.
-ghost use Rattle.std.specs.Prelude.{◌≡◌, ℕ, ◌≤◌, List, [], ◌∷◌, ◌++◌, take, IfSome};
-ghost use Rattle.pay_peers.specs.Lines.{word_at};
+ghost use Rattle.std.specs.Prelude.{◌≡◌, ℕ, ◌≤◌, List, [], ◌∷◌, ◌++◌, length, take, IfSome};
+ghost use Rattle.std.specs.Char.{is_ascii_graphic};
+ghost use Rattle.std.specs.List.{list_all};
+ghost use Rattle.pay_peers.specs.Lines.{backup_of, is_path, word_at};
 
 use pay_session::Role;
 use pay_wire::limits::MOST_LINE_BYTES;
 use std::marker::Model;
 
 /// What staff ask of the service itself, each by a line of its own.
-#[derive(Clone, Copy, Debug, PartialEq, Eq)]
+#[derive(Drop)]
 pub enum Word {
     /// `STOP`: that it ends.
     Stop,
     /// `STATS`: what it has done.
     Stats,
+    /// `BACKUP PATH`: that the ledger is copied to this path.
+    Backup(Line),
+}
+
+/// Whether each byte is printable ASCII, and none a space.
+fn are_graphic(bytes: &[u8]) -> bool
+    ensures { result ≡ list_all is_ascii_graphic bytes.now }
+{
+    bytes.iter().all(|byte| byte.is_ascii_graphic())
+}
+
+/// Whether bytes are a path from the root, of such bytes alone.
+#[tactic(auto, unfolding(crate::specs::Lines::is_path))]
+fn is_path(bytes: &[u8]) -> bool
+    ensures { result ≡ is_path bytes.now }
+{
+    bytes.starts_with(b"/") && are_graphic(bytes)
+}
+
+/// The backup for which a line asks, of no more than 128 bytes.
+fn backup_of(line: &[u8]) -> Option<Word>
+    requires { length line.now ≤ 128 }
+    ensures { result ≡ backup_of line.now }
+{
+    let path = line.strip_prefix(b"BACKUP ")?;
+    if !is_path(path) {
+        return None;
+    }
+    let mut kept = Line::new();
+    kept.extend(path);
+    Some(Word::Backup(kept))
 }
 
 /// The word that a line is at a port. As in a session every byte counts, a carriage return too.
@@ -22,10 +55,11 @@ fn word_at(role: Role, line: &[u8]) -> Option<Word>
 {
     match role {
         Role::Taps => None,
+        Role::All if line.len() > MOST_LINE_BYTES => None,
         Role::All => match line {
             b"STOP" => Some(Word::Stop),
             b"STATS" => Some(Word::Stats),
-            _ => None,
+            _ => backup_of(line),
         },
     }
 }
@@ -33,14 +67,14 @@ fn word_at(role: Role, line: &[u8]) -> Option<Word>
 /// How many bytes of a line are kept: one more than it may have, so that a longer one shows.
 const KEPT_BYTES: usize = MOST_LINE_BYTES + 1;
 
-/// The line that is being read, as much of it as is kept.
+/// A line, or a part of one, as much of it as is kept.
 #[derive(Drop)]
-pub struct Begun {
+pub struct Line {
     bytes: [u8; KEPT_BYTES],
     count: usize,
 }
 
-impl Model for Begun {
+impl Model for Line {
     ghost use Rattle.std.specs.Prelude.{ℕ, ◌≤◌, List, take};
 
     ghost Value = { List ℕ };
@@ -50,12 +84,12 @@ impl Model for Begun {
     ghost invariant = { λ b. b.count ≤ 129 };
 }
 
-impl Begun {
+impl Line {
     /// An empty line.
-    pub fn new() -> Begun
+    pub fn new() -> Line
         ensures { result ≡ [] }
     {
-        Begun {
+        Line {
             bytes: [0; KEPT_BYTES],
             count: 0,
         }

@@ -111,12 +111,12 @@ fn places_at<R: Net<Listener = TcpListener, Stream = TcpStream> + Clock + Copy, 
 }
 
 /// Serves everybody at places, and staff at a port with a till, by so many lanes as a plan has and one more.
-fn stay_at<R, K, T: Till, A>(
+fn stay_at<R, K, T: Till, A, B>(
     rt: R,
     alloc: Global,
     given: Given<'_, K>,
     places: Vec<Ready<R, A>>,
-    control: Control<R, A>,
+    control: Control<R, B>,
     stop: &AtomicBool,
     till: &mut T,
 ) -> Result<(), Fault>
@@ -124,6 +124,7 @@ where
     R: Threads + Wait + Clock + Eprint + Copy + Send + 'static,
     K: Keeper + Send + 'static,
     A: Aside + Send + 'static,
+    B: Aside,
     requires keepers { length given.keepers.items ≡ given.plan.shards }
     requires places { length places.items ≡ given.plan.lanes }
     ensures stays { IfOk result (λ _. HasStayedBy K.Keeper T.Closes (terms_of K.Keeper given.entry) (till.old, till.new)) }
@@ -150,7 +151,7 @@ where
         keepers,
     };
     let mut gates = Vec::new(alloc);
-    match pay_serve::stay::<Book, R, K, Ready<R, A>, Control<R, A>, T>(
+    match pay_serve::stay::<Book, R, K, Ready<R, A>, Control<R, B>, T>(
         rt, alloc, given, places, control, stop, till, &mut gates,
     ) {
         Ok(()) => Ok(()),
@@ -159,12 +160,12 @@ where
 }
 
 /// The same with a till over a ledger.
-fn stay_into<R, K, S: Alter, C: Watch, A>(
+fn stay_into<R, K, S: Alter, C: Watch, A, B>(
     rt: R,
     alloc: Global,
     given: Given<'_, K>,
     places: Vec<Ready<R, A>>,
-    control: Control<R, A>,
+    control: Control<R, B>,
     stop: &AtomicBool,
     ledger: &mut Ledger<S>,
     watch: &mut C,
@@ -173,6 +174,7 @@ where
     R: Threads + Wait + Clock + Eprint + Copy + Send + 'static,
     K: Keeper + Send + 'static,
     A: Aside + Send + 'static,
+    B: Aside,
     requires keepers { length given.keepers.items ≡ given.plan.shards }
     requires places { length places.items ≡ given.plan.lanes }
     ensures stays { IfOk result (λ _. HasStayedBy K.Keeper (ledger_closes S.Store) (terms_of K.Keeper given.entry) (ledger.old, ledger.new)) }
@@ -185,7 +187,7 @@ where
 }
 
 /// Serves everybody and staff over a ledger that was taken.
-fn stay_over<R, K, S: Alter, C: Watch, A>(
+fn stay_over<R, K, S: Alter, C: Watch, A, B>(
     rt: R,
     alloc: Global,
     given: Given<'_, K>,
@@ -193,6 +195,7 @@ fn stay_over<R, K, S: Alter, C: Watch, A>(
     ledger: &mut Ledger<S>,
     watch: &mut C,
     aside: A,
+    staff_aside: B,
 ) -> Result<(), Fault>
 where
     R: Net<Listener = TcpListener, Stream = TcpStream>
@@ -205,6 +208,7 @@ where
         + 'static,
     K: Keeper + Send + 'static,
     A: Aside + Send + 'static,
+    B: Aside,
     requires keepers { length given.keepers.items ≡ given.plan.shards }
     ensures stays { IfOk result (λ _. HasStayedBy K.Keeper (ledger_closes S.Store) (terms_of K.Keeper given.entry) (ledger.old, ledger.new)) }
     ensures fails { IfErr result (EndsNot K.Keeper (ledger_closes S.Store) (terms_of K.Keeper given.entry) (ledger.old, ledger.new)) }
@@ -225,7 +229,7 @@ where
         &aside,
     )?;
     let listener = listen_at(&rt, ports.staff)?;
-    let control = match Control::new(rt, alloc, listener, ports, shared, aside) {
+    let control = match Control::new(rt, alloc, listener, ports, shared, staff_aside) {
         Ok(control) => control,
         Err(error) => return Err(fault_of_port(&error)),
     };
@@ -242,10 +246,10 @@ where
 }
 
 /// Serves everybody at one port, by so many lanes as a plan has, and staff at another, by a fare file and the clock of a zone, until staff
-/// ask for the service to stop, or it is told to. Each lane has what it does beside its lines. Days are closed into a ledger, if the watch lets them. The lines of journals, which are
+/// ask for the service to stop, or it is told to. Each lane has what it does beside its lines, and that of staff its own. Days are closed into a ledger, if the watch lets them. The lines of journals, which are
 /// given by their numbers from 0 on, are taken again before the first connection; and each shard has a keeper of what it newly accepts. A
 /// ledger that does not agree with what the journals give back is not [taken](pay_jobs::take_with), and then no port is.
-pub fn stay<R, K, S: Alter, C: Watch, A>(
+pub fn stay<R, K, S: Alter, C: Watch, A, B>(
     rt: R,
     alloc: Global,
     given: Given<'_, K>,
@@ -253,6 +257,7 @@ pub fn stay<R, K, S: Alter, C: Watch, A>(
     ledger: &mut Ledger<S>,
     watch: &mut C,
     aside: A,
+    staff_aside: B,
 ) -> Result<(), Fault>
 where
     R: Net<Listener = TcpListener, Stream = TcpStream>
@@ -265,6 +270,7 @@ where
         + 'static,
     K: Keeper + Send + 'static,
     A: Aside + Send + 'static,
+    B: Aside,
     requires keepers { length given.keepers.items ≡ given.plan.shards }
     ensures stays { IfOk result (λ _. HasStayedOver K.Keeper S.Store (terms_of K.Keeper given.entry) ledger.old ledger.new) }
     ensures fails { IfErr result (StaysNot K.Keeper S.Store (terms_of K.Keeper given.entry) ledger.old ledger.new) }
@@ -273,5 +279,5 @@ where
 {
     take_given(alloc, &given.editions, &given.zone, given.texts, ledger)?;
     watch.begins();
-    stay_over(rt, alloc, given, staying, ledger, watch, aside)
+    stay_over(rt, alloc, given, staying, ledger, watch, aside, staff_aside)
 }

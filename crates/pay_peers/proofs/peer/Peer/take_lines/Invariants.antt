@@ -1,4 +1,4 @@
-use Rattle.std.proofs.Common.{◌≡◌, [], length, None}
+use Rattle.std.proofs.Common.{◌≡◌, [], length, false, None}
 use Rattle.pay_session.specs.Words.{HasAnsweredAt}
 use Rattle.pay_peers.specs.Lines.{IsTaken}
 use Rattle.pay_peers.proofs.peer.Peer.take_lines.Given as goal
@@ -9,6 +9,7 @@ invariant-lines g l =
     × (g.T.Till.origin l.till ≡ g.T.Till.origin l.initial.till)
     × (l.self.pending.items ≡ [])
     × IsTaken l.port.role l.initial.self.begun l.initial.rest None l.self.begun l.rest
+    × (l.self.over ≡ false → l.initial.self.over ≡ false)
 
 -- each turn takes a byte at least
 abbrev pub decreases-lines : goal.decreases-lines

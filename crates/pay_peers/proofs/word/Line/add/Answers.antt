@@ -1,6 +1,6 @@
 use Rattle.std.proofs.Common.{◌≡◌, length, rules}
 use Rattle.pay_peers.proofs.Kept.{byte_added, byte_left_out}
-use Rattle.pay_peers.proofs.word.Begun.add.Goals as goal
+use Rattle.pay_peers.proofs.word.Line.add.Goals as goal
 
 pub returns-then-self-lt-KEPT_BYTES : goal.returns-then-self-lt-KEPT_BYTES
 returns-then-self-lt-KEPT_BYTES c =

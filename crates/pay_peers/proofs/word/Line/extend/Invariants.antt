@@ -1,5 +1,5 @@
 use Rattle.std.proofs.Common.{◌≡◌, ◌++◌, take}
-use Rattle.pay_peers.proofs.word.Begun.extend.Given as goal
+use Rattle.pay_peers.proofs.word.Line.extend.Given as goal
 
 -- what is kept of the line with the bytes so far
 abbrev pub invariant-loop-byte : goal.invariant-loop-byte

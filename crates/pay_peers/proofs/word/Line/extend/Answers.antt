@@ -1,7 +1,7 @@
 use Rattle.std.proofs.Common.{◌≡◌, ℕ, ◌≤◌, List, [], ◌++◌, length, take, ap, sym, subst, ◌∙◌, take_all, append-nil, arith, length-take-le}
 use Rattle.std.proofs.lemmas.List.{take_min}
 use Rattle.pay_peers.proofs.Kept.{kept_next, kept_front}
-use Rattle.pay_peers.proofs.word.Begun.extend.Goals as goal
+use Rattle.pay_peers.proofs.word.Line.extend.Goals as goal
 
 -- a line that is kept whole
 whole : (line : List ℕ) → length line ≤ 129 → line ≡ take 129 (line ++ [])
