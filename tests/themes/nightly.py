@@ -10,9 +10,9 @@ import sys
 import threading
 import time
 
-from support.journals import new_folder
+from support.journals import new_folder, with_both
 from support.repository import LONDON, PROGRAM, ROOT, RUN_SAMPLE
-from support.running import MISSING, TIME_TO_END, TIME_TO_REPLY, End, answers, bytes_of, in_lines, run, written
+from support.running import MISSING, RUN, TIME_TO_END, TIME_TO_REPLY, End, answers, bytes_of, in_lines, run, written
 from support.serving import HOST, boarding, ended, free_ports, paid, talk
 from support.staying import both_listening, staying
 from support.theme import Theme
@@ -259,6 +259,25 @@ class Nightly(Theme):
         self.check("nobody answers", came._replace(errors=came.errors[-12:]), End(3, b"", b": timed out\n"))
         self.check("the files", self.files(), answers(b"none"))
 
+    def test_no_backup(self):
+        """Where the service copies no ledger, or nobody can write there, that is said, and nothing is left."""
+        journals, saved = new_folder(self.folder), new_folder(self.folder, "saved")
+        written(journals, "0.lines", boarding(7).encode())
+        told = self.closed(19730, MONDAY, 1, 610).encode()
+        for name, reply, folder, why in (
+            ("no copy", b"NO 53 NoBackup\nBYE\n", saved, "the service answers NO 53 NoBackup"),
+            ("another reply", b"OK\nBYE\n", saved, "the service answers OK"),
+            ("a reply that is cut", b"OK 12", saved, "the connection ended before the reply did"),
+            ("no folder", b"", f"{saved}/no", "[Errno 2] No such file or directory"),
+        ):
+            replies = [whole(PAID), reply] if reply else [whole(PAID)]
+            came, heard = self.close(replies, "19730", "--backup", folder, "--journals", journals)
+            self.check(name, came._replace(errors=came.errors.partition(b": '")[0].rstrip(b"\n")),
+                       End(6, told, f"nightly: no backup in {folder}: {why}".encode()))
+            asked = [line.split(b" ")[0] for line in heard.output.splitlines()[2:]]
+            self.check(f"what is sent, {name}", asked, [b"BACKUP", b"QUIT"][:len(reply)])
+        self.check("what is left", os.listdir(saved), [])
+
     def test_no_folder(self):
         """Where the file cannot be written, that is said, and that the day is closed."""
         into = os.path.join(written(self.folder, "file", b""), "postings")
@@ -323,10 +342,22 @@ class Service(Theme):
             self.check("a close", came, answers(told.encode()))
             postings = answers((paid(7) + paid(8) + "DONE 19730 2\n").encode())
             self.check("its file", answers(bytes_of(f"{into}/{MONDAY}.txt")), postings)
+            saved = new_folder(self.folder, "saved")
+            for number in "", "-2":
+                path = f"{saved}/{MONDAY}{number}"
+                came = ran([NIGHTLY, "19730", "--into", into, "--backup", saved, "--journals", journals], **control)
+                self.check("a backup", came, answers(f"{told}nightly: backup in {path}\n".encode()))
+                self.check("its modes", {
+                    os.stat(os.path.join(found, name)).st_mode & 0o777 for found, _, names in os.walk(path)
+                    for name in names
+                }, {0o600})
+                came = run(["audit", *RUN[1:], *with_both(f"{path}/taps", f"{path}/ledger.db")])
+                self.check("its audit", came, answers(b""))
             came = ran([STAFF, "STATS"], **control)
             counts = came.output.decode().partition(" connections=")[2]
-            # The three lines of the reader, the CLOSE and the QUIT of the close; the connection of STATS is open.
-            wanted = "1 connections_in_all=3 dropped=0 lines=5 accepted=2 again=0\nBYE\n"
+            # The three lines of the reader, the CLOSE and the QUIT of each close, and the QUIT of each backup; the
+            # connection of STATS is open.
+            wanted = "1 connections_in_all=7 dropped=0 lines=11 accepted=2 again=0\nBYE\n"
             self.check("what is counted", answers(counts.encode()), answers(wanted.encode()))
             self.check("a stop", ran([STAFF, "STOP"], **control), answers(b"BYE\n"))
             wanted = End(0, b"", both_listening(service.port, service.control))
