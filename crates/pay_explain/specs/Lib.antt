@@ -6,3 +6,4 @@ pub mod Sums
 pub mod Day
 pub mod Cells
 pub mod Explained
+pub mod Week

@@ -9,6 +9,7 @@ mod lines;
 mod routes;
 mod sentences;
 mod sums;
+mod week;
 
 pub use amounts::{Clock, Head, Pounds};
 pub use day::day_text;
@@ -17,3 +18,4 @@ pub use lines::{Line, Why, line_of};
 pub use routes::{Route, route_of};
 pub use sentences::{BoardingWhy, LoneWhy, Peakness, RailWhy, When, Zones};
 pub use sums::{BandLines, Covered, DaySums};
+pub use week::{CreditLine, DayLine, DueLines, WeekSums};
