@@ -1,3 +1,4 @@
 pub mod Cells
 pub mod Counts
 mod DayRows
+pub mod Weeks

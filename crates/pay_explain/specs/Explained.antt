@@ -1,13 +1,15 @@
--- Why a day was charged, by what an account has accepted.
+-- Why a day was charged, and its week, by what an account has accepted.
 use Rattle.std.specs.Prelude.{ℕ, List, ◌++◌, filter}
 use Rattle.pay_tables.specs.Words.{FareEditions, on}
 use Rattle.pay_rules.specs.declared.tap.Touch.{Touch}
 use Rattle.pay_rules.specs.declared.journey.Journey.{Journey}
 use Rattle.pay_rules.specs.Accepted.{Accepted, touches}
+use Rattle.pay_rules.specs.Fixes.{Fixes}
 use Rattle.pay_rules.specs.Journeys.{is_bus, rail_journeys}
 use Rattle.pay_rules.specs.Prices.{journeys_on}
 use Rattle.pay_why.specs.Words.{bus_journeys, day_reason}
 use Rattle.pay_explain.specs.Day.{day_text}
+use Rattle.pay_explain.specs.Week.{week_text}
 
 -- by all journeys by rail and all boardings of an account: the lines of the day's, and those of the reason of the day
 abbrev pub text_of_journeys : FareEditions → List Journey → List Touch → ℕ → List ℕ
@@ -21,3 +23,11 @@ text_of_touches editions list day = text_of_journeys editions (rail_journeys edi
 -- and by what an account has accepted
 abbrev pub explained_day : FareEditions → Accepted → ℕ → List ℕ
 explained_day editions accepted day = text_of_touches editions (touches accepted) day
+
+-- a day's week through that day: by touches in order, with these corrections
+abbrev pub week_of_touches : FareEditions → List Touch → Fixes → ℕ → List ℕ
+week_of_touches editions list fixes through = week_text editions (rail_journeys editions list ++ bus_journeys editions (filter is_bus list)) fixes through
+
+-- and by what an account has accepted
+abbrev pub explained_week : FareEditions → Accepted → ℕ → List ℕ
+explained_week editions accepted through = week_of_touches editions (touches accepted) accepted.fixes through

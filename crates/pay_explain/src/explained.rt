@@ -1,11 +1,13 @@
-//! Why a day was charged, by what an account has accepted.
+//! Why a day was charged, and its week, by what an account has accepted.
 ghost use Rattle.std.specs.Prelude.{◌≡◌, ◌≤◌, ◌+◌, length, IfOk};
 ghost use Rattle.std.specs.String.{string_bytes};
+ghost use Rattle.pay_day.specs.Words.{IsDay};
 ghost use Rattle.pay_rules.specs.declared.limits.TheConstants.{MOST_TOUCHES};
-ghost use Rattle.pay_explain.specs.Explained.{text_of_journeys, text_of_touches, explained_day};
+ghost use Rattle.pay_explain.specs.Explained.{text_of_journeys, text_of_touches, explained_day, week_of_touches, explained_week};
 
 use crate::day::day_text;
 use crate::journeys::{boardings_of, cells_on, rail_journeys};
+use crate::week_days::week_text;
 use pay_fix::{FixSet, effective};
 use pay_rules::{Journey, Touch};
 use pay_tables::Editions;
@@ -59,4 +61,39 @@ pub fn explained_day(
 {
     let touches = effective(alloc, taps, fixes)?;
     text_of_touches(alloc, editions, &touches, day)
+}
+
+/// The text of a day's week through that day, by an account's effective taps in order and its corrections.
+#[tactic(auto, using(crate::proofs::Counts::both_kinds))]
+fn week_of_touches(
+    alloc: Global,
+    editions: &Editions,
+    touches: &[Touch],
+    fixes: &FixSet,
+    through: u32,
+) -> Result<String, AllocError>
+    requires few { length touches.now ≤ MOST_TOUCHES }
+    requires is_day { IsDay through }
+    ensures { IfOk result (λ text. string_bytes text ≡ week_of_touches editions.now touches.now fixes.now through) }
+{
+    let journeys = rail_journeys(alloc, editions, touches)?;
+    let boardings = boardings_of(alloc, touches)?;
+    week_text(alloc, editions, &journeys, &boardings, fixes, through)
+}
+
+/// Why a day's week was charged through that day, by the accepted taps and corrections of an account: a line
+/// for each of its days from Monday on, those of the week's sums, one for each Credit that counts, and what is
+/// due. An `Err` is out of memory.
+pub fn explained_week(
+    alloc: Global,
+    editions: &Editions,
+    taps: &TapSet,
+    fixes: &FixSet,
+    through: u32,
+) -> Result<String, AllocError>
+    requires { IsDay through }
+    ensures { IfOk result (λ text. string_bytes text ≡ explained_week editions.now (record { taps = taps.now; fixes = fixes.now }) through) }
+{
+    let touches = effective(alloc, taps, fixes)?;
+    week_of_touches(alloc, editions, &touches, fixes, through)
 }

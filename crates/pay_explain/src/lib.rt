@@ -10,12 +10,14 @@ mod routes;
 mod sentences;
 mod sums;
 mod week;
+mod week_days;
 
 pub use amounts::{Clock, Head, Pounds};
 pub use day::day_text;
-pub use explained::explained_day;
+pub use explained::{explained_day, explained_week};
 pub use lines::{Line, Why, line_of};
 pub use routes::{Route, route_of};
 pub use sentences::{BoardingWhy, LoneWhy, Peakness, RailWhy, When, Zones};
 pub use sums::{BandLines, Covered, DaySums};
 pub use week::{CreditLine, DayLine, DueLines, WeekSums};
+pub use week_days::week_text;
