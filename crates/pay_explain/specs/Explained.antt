@@ -8,6 +8,7 @@ use Rattle.pay_rules.specs.Fixes.{Fixes}
 use Rattle.pay_rules.specs.Journeys.{is_bus, rail_journeys}
 use Rattle.pay_rules.specs.Prices.{journeys_on}
 use Rattle.pay_why.specs.Words.{bus_journeys, day_reason}
+use Rattle.pay_explain.specs.Corrections.{corrections_text}
 use Rattle.pay_explain.specs.Day.{day_text}
 use Rattle.pay_explain.specs.Week.{week_text}
 
@@ -20,9 +21,9 @@ text_of_journeys editions journeys taps day =
 abbrev pub text_of_touches : FareEditions → List Touch → ℕ → List ℕ
 text_of_touches editions list day = text_of_journeys editions (rail_journeys editions list) (filter is_bus list) day
 
--- and by what an account has accepted
+-- and by what an account has accepted: then come the lines of the corrections about the day
 abbrev pub explained_day : FareEditions → Accepted → ℕ → List ℕ
-explained_day editions accepted day = text_of_touches editions (touches accepted) day
+explained_day editions accepted day = text_of_touches editions (touches accepted) day ++ corrections_text accepted.taps accepted.fixes day
 
 -- a day's week through that day: by touches in order, with these corrections
 abbrev pub week_of_touches : FareEditions → List Touch → Fixes → ℕ → List ℕ

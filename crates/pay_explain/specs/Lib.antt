@@ -5,5 +5,6 @@ pub mod Lines
 pub mod Sums
 pub mod Day
 pub mod Cells
+pub mod Corrections
 pub mod Explained
 pub mod Week

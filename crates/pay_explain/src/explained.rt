@@ -5,6 +5,7 @@ ghost use Rattle.pay_day.specs.Words.{IsDay};
 ghost use Rattle.pay_rules.specs.declared.limits.TheConstants.{MOST_TOUCHES};
 ghost use Rattle.pay_explain.specs.Explained.{text_of_journeys, text_of_touches, explained_day, week_of_touches, explained_week};
 
+use crate::corrections::push_corrections;
 use crate::day::day_text;
 use crate::journeys::{boardings_of, cells_on, rail_journeys};
 use crate::week_days::week_text;
@@ -49,7 +50,8 @@ fn text_of_touches(
 }
 
 /// Why a service day was charged, by the accepted taps and corrections of an account: a line for each journey
-/// of that day, in the order of their first taps, and then those of its sums. An `Err` is out of memory.
+/// of that day, in the order of their first taps, those of its sums, and one for each correction about the day, or
+/// that names nothing: what it does now. An `Err` is out of memory.
 pub fn explained_day(
     alloc: Global,
     editions: &Editions,
@@ -60,7 +62,9 @@ pub fn explained_day(
     ensures { IfOk result (λ text. string_bytes text ≡ explained_day editions.now (record { taps = taps.now; fixes = fixes.now }) day) }
 {
     let touches = effective(alloc, taps, fixes)?;
-    text_of_touches(alloc, editions, &touches, day)
+    let mut text = text_of_touches(alloc, editions, &touches, day)?;
+    push_corrections(&mut text, taps, fixes, day)?;
+    Ok(text)
 }
 
 /// The text of a day's week through that day, by an account's effective taps in order and its corrections.

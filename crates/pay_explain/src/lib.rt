@@ -2,6 +2,7 @@
 #![tactic(auto)]
 
 mod amounts;
+mod corrections;
 mod day;
 mod explained;
 mod journeys;
@@ -13,6 +14,7 @@ mod week;
 mod week_days;
 
 pub use amounts::{Clock, Head, Pounds};
+pub use corrections::CorrectionLine;
 pub use day::day_text;
 pub use explained::{explained_day, explained_week};
 pub use lines::{Line, Why, line_of};
