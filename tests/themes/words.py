@@ -37,6 +37,7 @@ Commands:
   check      Read a fare file, and print how many places, bands, interchanges, holidays and editions
              it has, or its first fault; or compare it with another
   statement  Read taps and corrections from standard input, and print the statement of an account's week as CSV
+  explain    Read journals, and say why an account's day or week was charged, in plain words
   replay     Read journals, and print how many lines and accounts they have, with the first and last
              instant, or the first bad line
   serve      Read taps and corrections from the connections of several lanes. Close a day after so
@@ -51,14 +52,15 @@ Options:
   -h, --help     Print help
   -V, --version  Print version
 
-Words of run (FARES ZONE), of check (FARES), of statement (FARES ZONE ACCOUNT DAY), of replay
-(FARES ZONE FILE..), of serve (FARES ZONE --port P --lanes L --shards N --sessions K --close DAY, or
-FARES ZONE --port P --lanes L --shards N --control C --journal FOLDER --ledger FILE), of audit
-(FARES ZONE --journal PATH) and of rebuild (FARES LEDGER), with options in any order:
+Words of run (FARES ZONE), of check (FARES), of statement (FARES ZONE ACCOUNT DAY), of explain
+(FARES ZONE ACCOUNT DAY --journal PATH), of replay (FARES ZONE FILE..), of serve (FARES ZONE
+--port P --lanes L --shards N --sessions K --close DAY, or FARES ZONE --port P --lanes L --shards N
+--control C --journal FOLDER --ledger FILE), of audit (FARES ZONE --journal PATH) and of rebuild
+(FARES LEDGER), with options in any order:
   FARES    the fare file, a TOML document, which may hold editions, fares that hold from a day on
   ZONE     the time zone, a POSIX rule text (a name such as Europe/London is none)
   ACCOUNT  the account, a number from 1 to 4294967295
-  DAY      a service day, counted from 1970-01-01: of the week, or the one that is closed
+  DAY      a service day, counted from 1970-01-01: of the week, or what is explained or closed
   P        the port of the first lane, each further lane has the next port; with C, of all lanes
   L        how many lanes there are, from 1 to 15; with C, from 1 to 14
   N        how many shards the accounts are spread over, from 1 to 16
@@ -70,10 +72,10 @@ FARES ZONE --port P --lanes L --shards N --control C --journal FOLDER --ledger F
 
 Further options: --journal FILE and --ledger FILE of run, and --sync with --journal; --lint and
 --against OLD of check, where OLD is another fare file, and --after DAY with --against; --journal
-FILE of statement, where it is only read; --journal FOLDER and --ledger FILE of serve; --ahead S of
-serve with --control, to refuse taps more than S seconds ahead of this machine's clock, and --refused
-FILE, to which refused lines are added; --early of run and of serve, to close a day that is not over
-yet; --ledger FILE of audit.
+FILE of statement, where it is only read; --week of explain, for the week through DAY; --journal
+FOLDER and --ledger FILE of serve; --ahead S of serve with --control, to refuse taps more than S
+seconds ahead of this machine's clock, and --refused FILE, to which refused lines are added; --early
+of run and of serve, to close a day that is not over yet; --ledger FILE of audit.
 """ + RUN_EXAMPLE + STATUSES + RUN_FORMATS
 RUN_HELP = b"""\
 Read taps, corrections and closes from standard input, and reply to each
@@ -162,6 +164,28 @@ printed; at the end of input the journeys of its week are, a row for each.
   19730,BUS,50,0,07:00:00,175,-
 """ + STATUSES + b"""
 The lines, the fare file, the statement and the faults are described in docs/FORMATS.md.
+"""
+EXPLAIN_HELP = b"""\
+Read journals, and say why an account's day or week was charged, in plain words
+
+Usage: farebox explain [OPTIONS] --journal <PATH> <FARES> <ZONE> <ACCOUNT> <DAY>
+
+Arguments:
+  <FARES>    The fare file, a TOML document
+  <ZONE>     The time zone, a POSIX rule text such as GMT0BST,M3.5.0/1,M10.5.0
+             (a name such as Europe/London is none)
+  <ACCOUNT>  The account, a number from 1 to 4294967295
+  <DAY>      The service day, counted from 1970-01-01: a number from 4 to 50000
+
+Options:
+      --journal <PATH>  A journal that has the account, or a folder of journals; it is only read
+      --week            Explain its week through that day, in place of the day alone
+  -h, --help            Print help
+
+PATH is the FILE of `run --journal FILE`, or the FOLDER of `serve --journal FOLDER`. Standard input
+is not read.
+""" + STATUSES + b"""
+The journal, the fare file and the faults are described in docs/FORMATS.md.
 """
 REPLAY_HELP = b"""\
 Read journals, and print how many lines and accounts they have, with the first and last
@@ -323,6 +347,10 @@ class Help(Theme):
                 ["statement", MISSING, "no zone", "--help"],
                 ["statement", "-h", "no", "words", "of", "it"], [*STATE, "-h"],
             )),
+            (EXPLAIN_HELP, (
+                ["explain", "--help"], ["help", "explain"], ["explain", MISSING, "no zone", "7", "-h"],
+                ["explain", "--week", "--help", "--week"], ["explain", "--journal", MISSING, "-h"],
+            )),
             (REPLAY_HELP, (
                 ["replay", "--help"], ["replay", "-h"], ["help", "replay"],
                 ["replay", MISSING, "no zone", MISSING, "--help"],
@@ -427,7 +455,7 @@ class Runs(Theme):
         )
 
 
-# No account, and no day of a statement.
+# No account, and no day, of a statement or of what is explained.
 NO_NUMBERS = (
     "", " ", "-", "+", "-0", "-1", "--7", "++7", "+-7", "x", "7x", "x7", "7.0", "7e0", "0x7", "7 ", " 7", "1 000",
     "1_000", "\u0667", "9" * 40,
@@ -710,3 +738,52 @@ class Checks(Theme):
                 for day in days:
                     given = [*TO_CHECK, "--against", "a", *(word.format(day) for word in between)]
                     self.check(f"the words {given}", run(given, cwd=self.folder), NO_FARES if is_taken else USAGE)
+
+
+# Words of what is explained. The fare file is missing, and so is the journal.
+TO_EXPLAIN = ["explain", MISSING, LONDON, "7", "19730", "--journal", "a"]
+NOT_ASKED = TO_EXPLAIN[:5]
+REFUSED_BY_EXPLAIN = (
+    *(TO_EXPLAIN[:count] for count in range(1, len(TO_EXPLAIN))), [*TO_EXPLAIN, "more"], ["explain", *TO_EXPLAIN],
+    ["--", *TO_EXPLAIN], ["EXPLAIN", *TO_EXPLAIN[1:]], [*NOT_ASKED, "--", "--journal", "a"],
+    [*TO_EXPLAIN[:4], "--journal", "a", "--", "-1"], [b"explain\xff", *TO_EXPLAIN[1:]],
+    [*NOT_ASKED[:4], b"19730\xff", "--journal", "a"],
+    # The journal is needed, and given once.
+    [*NOT_ASKED, "--week"], [*TO_EXPLAIN, "--journal", "a"], [*TO_EXPLAIN, "--journal=b"],
+    [*NOT_ASKED, "--journal", "-a"], [*NOT_ASKED, "--journal", "--week"], [*NOT_ASKED, "--Journal", "a"],
+    [*NOT_ASKED, "--journal", b"\xff"],
+    # The flag has no value, and is given once.
+    [*TO_EXPLAIN, "--week", "--week"], [*TO_EXPLAIN, "--week=true"], [*TO_EXPLAIN, "--week="],
+    [*TO_EXPLAIN, "--week", "true"], [*TO_EXPLAIN, "--Week"], [*TO_EXPLAIN, "--weeks"], [*TO_EXPLAIN, "-w"],
+    # No option of `explain`, and that of `explain` for others.
+    *([*TO_EXPLAIN, more] for more in ("--ledger=b", "--sync", "--early", "--lint", "--version")),
+    *([*words, "--week"] for words in (TO_RUN, TO_CHECK, TO_STATE, TO_SERVE, [*TO_REPLAY, "a"])),
+    # What is refused comes before a call for help after it.
+    ["explain", "--week", "--week", "--help"], ["explain", "--journal", "--help"], [*NOT_ASKED[:3], "0", "--help"],
+)
+TAKEN_BY_EXPLAIN = (
+    TO_EXPLAIN, [*TO_EXPLAIN, "--week"], [*TO_EXPLAIN, "--"], ["explain", "--week", *TO_EXPLAIN[1:]],
+    ["explain", "--journal=-a", *NOT_ASKED[1:3], "--week", *NOT_ASKED[3:]],
+    ["explain", "--journal", "a", "--week", "--", *NOT_ASKED[1:]], [*NOT_ASKED, "--journal=a"],
+    [*NOT_ASKED, "--journal", "-"], [*NOT_ASKED, "--journal="],
+)
+
+
+class Explained(Theme):
+    """Words of what is explained."""
+
+    def test_words_of_explain(self):
+        """Options of what is explained, in whatever order, and accounts and days in and out of their ranges."""
+        for given in REFUSED_BY_EXPLAIN:
+            self.check(f"the words {given}", run(given, cwd=self.folder), USAGE)
+        for given in TAKEN_BY_EXPLAIN:
+            self.check(f"the words {given}", run(given, cwd=self.folder), NO_FARES)
+        journal = TO_EXPLAIN[5:]
+        for account in (*NO_NUMBERS, *NO_ACCOUNTS):
+            self.check(f"the account {account!r}", run([*NOT_ASKED[:3], account, "19730", *journal]), USAGE)
+        for day in (*NO_NUMBERS, *NO_DAYS):
+            self.check(f"the day {day!r}", run([*NOT_ASKED[:4], day, *journal]), USAGE)
+        for account, day, _ in TAKEN_NUMBERS:
+            self.check(
+                f"the account {account} and the day {day}", run([*NOT_ASKED[:3], account, day, *journal]), NO_FARES
+            )

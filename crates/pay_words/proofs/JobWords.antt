@@ -5,17 +5,18 @@ use Rattle.clap.specs.Kinds.{Kinds}
 use Rattle.clap.specs.ValueTests.{is_unsigned_in}
 use Rattle.std.specs.Prelude.{IfSome, ⊤}
 use Rattle.std.proofs.lemmas.Bool.Decides.{eqb_tells}
-use Rattle.pay_words.specs.Asked.{AreAuditWords, AreCheckWords, AreRunWords, AreServeWords, AreStatementWords, Asked, HaveNoHyphens, Word, allowed, asked, many_by, many_given, word_kind, words_ask, option_asked, program_asked}
-use Rattle.pay_words.specs.Asked.{audit, audit_asked, audit_of, rebuild, rebuild_asked, rebuild_of}
+use Rattle.pay_words.specs.Asked.{AreAuditWords, AreCheckWords, AreExplainWords, AreRunWords, AreServeWords, AreStatementWords, Asked, HaveNoHyphens, Word, allowed, asked, many_by, many_given, word_kind, words_ask, option_asked, program_asked}
+use Rattle.pay_words.specs.Asked.{audit, audit_asked, audit_of, explain, explain_asked, explain_of, rebuild, rebuild_asked, rebuild_of}
 use Rattle.pay_words.specs.Asked.{check, check_asked, check_of, replay, replay_asked, run, run_asked, run_of, serve, serve_asked, serve_of, statement, statement_asked, statement_of}
 use Rattle.pay_words.specs.Asked.{Given, with_value, values, help, refused, without_dashes}
 use Rattle.pay_words.specs.Asked as words
 use Rattle.pay_words.specs.Options as say
 use Rattle.pay_words.specs.Options.{AreParts, IsOption, Part, Said, Setting, StandApart, all_of, all_said, flag_value, help_wanted, is_flag, not_taken, plain_words, reader_of, values_of, words_of_parts}
 use Rattle.pay_words.specs.Options.{port_option, lanes_option, shards_option, sessions_option, close_option, control_option, ahead_option, refused_option, journal_option, sync_option, ledger_option, early_option}
-use Rattle.pay_words.specs.Options.{lint_option, against_option, after_option}
+use Rattle.pay_words.specs.Options.{lint_option, against_option, after_option, week_option}
 use Rattle.pay_words.specs.Audit.{AreAuditParts, Audit, audit_grammar}
 use Rattle.pay_words.specs.Check.{AreCheckParts, CheckTexts, HasAfterInRange, check_grammar, check_of_texts, has_against}
+use Rattle.pay_words.specs.Explain.{AreExplainParts, ExplainTexts, HasAccountAndDayInRange, explain_grammar, explain_of_texts}
 use Rattle.pay_words.specs.Rebuild.{rebuild_grammar}
 use Rattle.pay_words.specs.Run.{AreRunParts, Run, first_given, flags, has_journal, is_given, listed, run_grammar}
 use Rattle.pay_words.specs.Serve.{AreInRange, ArePartsOf, ServeTexts, is_whole, numbers_of, serve_grammar}
@@ -29,6 +30,7 @@ use Rattle.pay_words.proofs.WordLevels.{Level, rows_from}
 use Rattle.pay_words.proofs.WordSteps.{stand}
 use Rattle.pay_words.proofs.WordsAfterAudit.{audit_apart, audit_built, audit_rules, audit_shape}
 use Rattle.pay_words.proofs.WordsAfterCheck.{check_apart, check_built, check_rules, check_shape, under_day}
+use Rattle.pay_words.proofs.WordsAfterExplain.{explain_apart, explain_built, explain_rules, explain_shape}
 use Rattle.pay_words.proofs.WordsAfterOptions.{Comes, Places, Under, ends}
 use Rattle.pay_words.proofs.WordsAfterRebuild.{rebuild_apart, rebuild_built, rebuild_rules}
 use Rattle.pay_words.proofs.WordsAfterReplay.{replay_long, replay_rules, replay_short}
@@ -74,6 +76,7 @@ abbrev pub AreWordsOf : Asked → List Text → Type 0
 AreWordsOf (run r) ws = AreRunWords r (without_dashes ws)
 AreWordsOf (check c) ws = AreCheckWords c (without_dashes ws)
 AreWordsOf (statement s) ws = AreStatementWords s (without_dashes ws)
+AreWordsOf (explain e) ws = AreExplainWords e (without_dashes ws)
 AreWordsOf (replay a b files) ws = (without_dashes ws ≡ codes "replay" ∷ a ∷ b ∷ files) × (files ≢ [])
 AreWordsOf (serve s) ws = AreServeWords s (without_dashes ws)
 AreWordsOf (audit a) ws = AreAuditWords a (without_dashes ws)
@@ -184,6 +187,36 @@ after_statement rest = go (all_said statement_grammar rest) (Level statement_sha
     go : (x : Said) (ks : Kinds) (rows : List Row) → Says statement_grammar (codes "statement") statement_rules statement_built statement_apart x (without_dashes rest)
         → Comes statement_grammar (codes "statement") statement_rules statement_built statement_apart x ks rows → AreWordsOf (statement_asked x) (codes "statement" ∷ rest)
     go (all_of parts) ks rows s h = made parts h.0 s h.1.2 (plain_words parts) refl h.1.1
+    go help_wanted ks rows s h = tt
+    go not_taken ks rows s h = tt
+
+after_explain : (rest : List Text) → AreWordsOf (explain_asked (all_said explain_grammar rest)) (codes "explain" ∷ rest)
+after_explain rest = go (all_said explain_grammar rest) (Level explain_shape [] (stand [] None idle 1 false) rest false []) (rows_from explain_shape [] (stand [] None idle 1 false) rest)
+    (says explain_grammar (codes "explain") explain_rules explain_built explain_apart rest)
+    (ends explain_grammar (codes "explain") explain_rules explain_built explain_apart rest)
+  where
+    made : (parts : List Part) (had : List Row) → Says explain_grammar (codes "explain") explain_rules explain_built explain_apart (all_of parts) (without_dashes rest)
+        → ((k : Setting) → Under had k (values_of k parts)) → (vs js : List Text) → plain_words parts ≡ vs → values_of journal_option parts ≡ js
+        → Places explain_grammar.places vs had → AreWordsOf (explain_of vs js (values_of week_option parts)) (codes "explain" ∷ rest)
+    made parts had s under [] js is j h = tt
+    made parts had s under (a ∷ []) js is j h = tt
+    made parts had s under (a ∷ b ∷ []) js is j h = tt
+    made parts had s under (a ∷ b ∷ n ∷ []) js is j h = tt
+    made parts had s under (a ∷ b ∷ n ∷ d ∷ e ∷ more) js is j h = tt
+    made parts had s under (a ∷ b ∷ n ∷ d ∷ []) [] is j h = tt
+    made parts had s under (a ∷ b ∷ n ∷ d ∷ []) (w ∷ v ∷ more) is j h = tt
+    made parts had s under (a ∷ b ∷ n ∷ d ∷ []) (w ∷ []) is j h = (
+      record { fares = a; zone = b; account = n; day = d; journal = w; week = is_given (values_of week_option parts) },
+      parts,
+      ap (λ (l : List Text). codes "explain" ∷ l) s.0,
+      (s.1, is, j, under_flags had week_option refl (values_of week_option parts) (under week_option)),
+      (h.2.2.1, h.2.2.2.1),
+      refl,
+    )
+
+    go : (x : Said) (ks : Kinds) (rows : List Row) → Says explain_grammar (codes "explain") explain_rules explain_built explain_apart x (without_dashes rest)
+        → Comes explain_grammar (codes "explain") explain_rules explain_built explain_apart x ks rows → AreWordsOf (explain_asked x) (codes "explain" ∷ rest)
+    go (all_of parts) ks rows s h = made parts h.0 s h.1.2 (plain_words parts) (values_of journal_option parts) refl refl h.1.1
     go help_wanted ks rows s h = tt
     go not_taken ks rows s h = tt
 
@@ -344,6 +377,7 @@ allowed_too (check c) ws h = go (has_against c) refl
     go true is = rw is h
     go false is = rw is tt
 allowed_too (statement s) ws h = h
+allowed_too (explain e) ws h = h
 allowed_too (replay a b files) ws h = h
 allowed_too (serve s) ws h = go (is_whole s) refl
   where
@@ -360,8 +394,8 @@ allowed_too words.usage ws h = tt
 said_in_order : (ws : List Text) → AreWordsOf (words_ask ws) (drop 1 ws)
 said_in_order [] = tt
 said_in_order (name ∷ []) = tt
-said_in_order (name ∷ word ∷ rest) = by_program (λ (w : Text). AreWordsOf (program_asked w rest) (w ∷ rest)) word (after_run rest) (after_check rest) (after_statement rest) (after_replay rest) (after_serve rest) (after_audit rest) (after_rebuild rest) tt
-    (λ none. rw (none.0, none.1, none.2, none.3, none.4, none.5, none.6, none.7) (after_other (word_kind word) (word ∷ rest)))
+said_in_order (name ∷ word ∷ rest) = by_program (λ (w : Text). AreWordsOf (program_asked w rest) (w ∷ rest)) word (after_run rest) (after_check rest) (after_statement rest) (after_explain rest) (after_replay rest) (after_serve rest) (after_audit rest) (after_rebuild rest) tt
+    (λ none. rw (none.0, none.1, none.2, none.3, none.4, none.5, none.6, none.7, none.8) (after_other (word_kind word) (word ∷ rest)))
 
 -- but for the first, and for a `--`, the words are those of the job
 pub in_order : (ws : List Text) → AreWordsOf (asked ws) (drop 1 ws)
@@ -418,6 +452,7 @@ module _ (r : Run) (parts : List Part) (are : AreRunParts r parts) where
   run_once lint_option = none_of_run lint_option (λ e. cc)
   run_once against_option = none_of_run against_option (λ e. cc)
   run_once after_option = none_of_run after_option (λ e. cc)
+  run_once week_option = none_of_run week_option (λ e. cc)
 
   run_taken : slice_index r.fares 0 ≢ 45 → slice_index r.zone 0 ≢ 45 → AreTaken run_grammar parts
   run_taken f z = record {
@@ -459,6 +494,7 @@ module _ (t : CheckTexts) (parts : List Part) (are : AreCheckParts t parts) (fit
   check_once lint_option = subst (Once lint_option) (sym are.2) (once_flags lint_option refl t.lints)
   check_once against_option = subst (Once against_option) (sym are.3) (once_listed against_option t.against (λ v. refl))
   check_once after_option = subst (Once after_option) (sym are.4) (once_number after_option t.after fits)
+  check_once week_option = none_of_check week_option (λ e. cc)
 
   check_taken : slice_index t.fares 0 ≢ 45 → AreTaken check_grammar parts
   check_taken f = record {
@@ -496,6 +532,7 @@ module _ (t : StatementTexts) (parts : List Part) (are : AreStatementParts t par
   statement_once lint_option = none_of_statement lint_option (λ e. cc)
   statement_once against_option = none_of_statement against_option (λ e. cc)
   statement_once after_option = none_of_statement after_option (λ e. cc)
+  statement_once week_option = none_of_statement week_option (λ e. cc)
 
   statement_taken : slice_index t.fares 0 ≢ 45 → slice_index t.zone 0 ≢ 45 → HasNumbersInRange t → AreTaken statement_grammar parts
   statement_taken f z n = record {
@@ -512,6 +549,44 @@ pub asks_statement : (ws : List Text) (name : Text) (t : StatementTexts) (parts 
     → slice_index t.fares 0 ≢ 45 → slice_index t.zone 0 ≢ 45 → HasNumbersInRange t → asked ws ≡ statement (statement_of_texts t)
 asks_statement ws name t parts is are may f z n = ap asked is
     ∙ (ap (λ (x : Said). allowed (statement_asked x)) (parts_taken statement_grammar parts (statement_taken t parts are f z n) may) ∙ ap allowed (statement_is t parts are))
+
+module _ (t : ExplainTexts) (parts : List Part) (are : AreExplainParts t parts) where
+  none_of_explain : (k : Setting) → (IsOption explain_grammar k → ⊥) → Once k (values_of k parts)
+  none_of_explain k none = subst (Once k) (sym (no_values explain_grammar k none parts are.0)) tt
+
+  explain_once : (k : Setting) → Once k (values_of k parts)
+  explain_once port_option = none_of_explain port_option (λ e. cc)
+  explain_once lanes_option = none_of_explain lanes_option (λ e. cc)
+  explain_once shards_option = none_of_explain shards_option (λ e. cc)
+  explain_once sessions_option = none_of_explain sessions_option (λ e. cc)
+  explain_once close_option = none_of_explain close_option (λ e. cc)
+  explain_once control_option = none_of_explain control_option (λ e. cc)
+  explain_once ahead_option = none_of_explain ahead_option (λ e. cc)
+  explain_once refused_option = none_of_explain refused_option (λ e. cc)
+  explain_once journal_option = subst (Once journal_option) (sym are.2) refl
+  explain_once sync_option = none_of_explain sync_option (λ e. cc)
+  explain_once ledger_option = none_of_explain ledger_option (λ e. cc)
+  explain_once early_option = none_of_explain early_option (λ e. cc)
+  explain_once lint_option = none_of_explain lint_option (λ e. cc)
+  explain_once against_option = none_of_explain against_option (λ e. cc)
+  explain_once after_option = none_of_explain after_option (λ e. cc)
+  explain_once week_option = subst (Once week_option) (sym are.3) (once_flags week_option refl t.week)
+
+  explain_taken : slice_index t.fares 0 ≢ 45 → slice_index t.zone 0 ≢ 45 → HasAccountAndDayInRange t → AreTaken explain_grammar parts
+  explain_taken f z n = record {
+    are = are.0;
+    fits = subst (Fits explain_grammar.places) (sym are.1) (refl, (refl, (n.0, (n.1, tt))));
+    hyphens = subst HaveNoHyphens (sym are.1) (f, (z, (number_has_none 1 4_294_967_295 t.account n.0, (number_has_none 4 50_000 t.day n.1, tt))));
+    once = explain_once;
+  }
+
+  explain_is : explain_asked (all_of parts) ≡ explain (explain_of_texts t)
+  explain_is = rw (are.1, are.2, are.3, given_flags t.week) refl
+
+pub asks_explain : (ws : List Text) (name : Text) (t : ExplainTexts) (parts : List Part) → ws ≡ name ∷ codes "explain" ∷ words_of_parts parts → AreExplainParts t parts → StandApart parts
+    → slice_index t.fares 0 ≢ 45 → slice_index t.zone 0 ≢ 45 → HasAccountAndDayInRange t → asked ws ≡ explain (explain_of_texts t)
+asks_explain ws name t parts is are may f z n = ap asked is
+    ∙ (ap (λ (x : Said). allowed (explain_asked x)) (parts_taken explain_grammar parts (explain_taken t parts are f z n) may) ∙ ap allowed (explain_is t parts are))
 
 many_values : (vs : List Text) → HaveNoHyphens vs → many_given vs ≡ values vs
 many_values [] h = refl
@@ -540,6 +615,7 @@ module _ (t : ServeTexts) (parts : List Part) (are : ArePartsOf t parts) (fits :
   serve_once lint_option = none_of_serve lint_option (λ e. cc)
   serve_once against_option = none_of_serve against_option (λ e. cc)
   serve_once after_option = none_of_serve after_option (λ e. cc)
+  serve_once week_option = none_of_serve week_option (λ e. cc)
   serve_once ledger_option = subst (Once ledger_option) (sym are.5) (once_listed ledger_option t.ledger (λ v. refl))
   serve_once early_option = subst (Once early_option) (sym are.6) (once_flags early_option refl t.early)
 
@@ -600,6 +676,7 @@ module _ (a : Audit) (parts : List Part) (are : AreAuditParts a parts) where
   audit_once lint_option = none_of_audit lint_option (λ e. cc)
   audit_once against_option = none_of_audit against_option (λ e. cc)
   audit_once after_option = none_of_audit after_option (λ e. cc)
+  audit_once week_option = none_of_audit week_option (λ e. cc)
 
   audit_taken : slice_index a.fares 0 ≢ 45 → slice_index a.zone 0 ≢ 45 → AreTaken audit_grammar parts
   audit_taken f z = record {

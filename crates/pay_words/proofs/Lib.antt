@@ -13,6 +13,7 @@ mod WordLevels
 mod WordSteps
 mod WordsAfterAudit
 mod WordsAfterCheck
+mod WordsAfterExplain
 mod WordsAfterOptions
 mod WordsAfterRebuild
 mod WordsAfterReplay

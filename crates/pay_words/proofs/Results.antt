@@ -5,10 +5,11 @@ use Rattle.clap.specs.Simple.{subcommand_of}
 use Rattle.clap.specs.Kinds.{Kinds}
 use Rattle.clap.specs.Faults.{fault_of}
 use Rattle.clap.specs.declared.error.kind.ErrorKind.TheVariants.{DisplayHelp, DisplayVersion, InvalidSubcommand, OutOfMemory}
-use Rattle.pay_words.specs.Asked.{Asked, HaveNoHyphens, IsAnswer, IsJobOrMemory, allowed, asked, number_of, run, check, statement, replay, serve, audit, rebuild, words_ask, help_asked, help_named, version_asked, usage, IsFaultOf, job_asked, AreJobWords, IsJobInRange, without_dashes}
+use Rattle.pay_words.specs.Asked.{Asked, HaveNoHyphens, IsAnswer, IsJobOrMemory, allowed, asked, number_of, run, check, statement, explain, replay, serve, audit, rebuild, words_ask, help_asked, help_named, version_asked, usage, IsFaultOf, job_asked, AreJobWords, IsJobInRange, without_dashes}
 use Rattle.pay_words.specs.Options.{Part, StandApart, words_of_parts}
 use Rattle.pay_words.specs.Audit.{AreAuditParts, Audit}
 use Rattle.pay_words.specs.Check.{AreCheckParts, Check, CheckTexts, HasAfterInRange, check_of_texts, has_against}
+use Rattle.pay_words.specs.Explain.{AreExplainParts, Explain, ExplainTexts, HasAccountAndDayInRange, explain_of_texts}
 use Rattle.pay_words.specs.Run.{AreRunParts, Run, has_journal}
 use Rattle.pay_words.specs.Serve.{AreInRange, ArePartsOf, Serve, ServeTexts, is_whole, last_port, numbers_of}
 use Rattle.pay_words.specs.Statement.{AreStatementParts, HasNumbersInRange, Statement, StatementTexts, statement_of_texts}
@@ -25,14 +26,14 @@ use Rattle.std.proofs.lemmas.Bool.{leb-true, not-true}
 use Rattle.clap.proofs.WalkLemmas.{both, first_value-rows, one_text-rows, raw_values-rows}
 use Rattle.std.specs.Prelude.{IfSome, IsOkAnd, ⊤}
 use Rattle.pay_words.specs.declared.words.Job.{Job}
-use Rattle.pay_words.specs.declared.words.Job.TheVariants.{Run as RunJob, Check as CheckJob, Statement as StatementJob, Replay, Serve as ServeJob, Stay as StayJob, Audit as AuditJob, Rebuild}
+use Rattle.pay_words.specs.declared.words.Job.TheVariants.{Run as RunJob, Check as CheckJob, Statement as StatementJob, Explain as ExplainJob, Replay, Serve as ServeJob, Stay as StayJob, Audit as AuditJob, Rebuild}
 use Rattle.pay_words.specs.declared.words.WordsFault.{WordsFault}
 use Rattle.pay_words.specs.declared.words.WordsFault.TheVariants.{Help, Version, Usage, Memory}
-use Rattle.pay_words.specs.CommandLine.{GivesAudit, GivesCheck, GivesRebuild, GivesReplay, GivesRun, GivesServe, GivesStatement, HasAudit, HasCheckTexts, HasFaresAndLedger, HasRun, HasServeTexts, HasStatementTexts, IsFaultOfKind, IsHelpOrMemory, IsVersionOrMemory, farebox_app, values_and_files}
+use Rattle.pay_words.specs.CommandLine.{GivesAudit, GivesCheck, GivesExplain, GivesRebuild, GivesReplay, GivesRun, GivesServe, GivesStatement, HasAudit, HasCheckTexts, HasExplainTexts, HasFaresAndLedger, HasRun, HasServeTexts, HasStatementTexts, IsFaultOfKind, IsHelpOrMemory, IsVersionOrMemory, farebox_app, values_and_files}
 use Rattle.pay_words.proofs.WordKinds.{Refuses, is_refusal}
 use Rattle.pay_words.proofs.WordsOfProgram.{Comes}
 use Rattle.pay_words.proofs.WordsAsked.{comes}
-use Rattle.pay_words.proofs.JobWords.{AreWordsOf, asks_audit, asks_check, asks_rebuild, asks_replay, asks_run, asks_serve, asks_statement, in_order}
+use Rattle.pay_words.proofs.JobWords.{AreWordsOf, asks_audit, asks_check, asks_explain, asks_rebuild, asks_replay, asks_run, asks_serve, asks_statement, in_order}
 
 -- ---- a parse that succeeds
 
@@ -41,6 +42,7 @@ abbrev pub Gives : ArgMatches → Asked → Type 0
 Gives m (run r) = GivesRun m r
 Gives m (check c) = GivesCheck m c
 Gives m (statement s) = GivesStatement m s
+Gives m (explain e) = GivesExplain m e
 Gives m (replay fares zone files) = GivesReplay m fares zone files
 Gives m (serve s) = GivesServe m s
 Gives m (audit a) = GivesAudit m a
@@ -55,6 +57,7 @@ matched ws m none has = go (words_ask ws) (comes ws)
     go (run r) h = (h.1.0, (has refl).1 ∙ h.1.1, h.1.2)
     go (check c) h = (h.1.0, h.1.1, (has refl).1 ∙ h.1.2, h.1.3, h.1.4, h.1.5)
     go (statement s) h = (h.1.0, h.1.1, (has refl).1 ∙ h.1.2, h.1.3, h.1.4, h.1.5)
+    go (explain e) h = (h.1.0, h.1.1, (has refl).1 ∙ h.1.2, h.1.3, h.1.4, h.1.5)
     go (replay a b files) h = ap (option_map values_and_files) ((has refl).1 ∙ h.1)
     go (serve s) h = (h.1.0, h.1.1, (has refl).1 ∙ h.1.2, h.1.3, h.1.4, h.1.5)
     go (audit a) h = (h.1.0, (has refl).1 ∙ h.1.1, h.1.2)
@@ -113,6 +116,7 @@ refused_as ws k fault (inr among) is = go (words_ask ws) (comes ws)
     go (run r) h = absurd (subst (IsAmong k) h.0 among)
     go (check a) h = absurd (subst (IsAmong k) h.0 among)
     go (statement s) h = absurd (subst (IsAmong k) h.0 among)
+    go (explain e) h = absurd (subst (IsAmong k) h.0 among)
     go (replay a b files) h = absurd (subst (IsAmong k) h.0 among)
     go (serve s) h = absurd (subst (IsAmong k) h.0 among)
     go (audit a) h = absurd (subst (IsAmong k) h.0 among)
@@ -171,6 +175,21 @@ statement_texts m f s same gives =
       one_text-rows f (codes "ACCOUNT") ∙ (ap (one_of (codes "ACCOUNT")) rows_are ∙ h.2),
       one_text-rows f (codes "DAY") ∙ (ap (one_of (codes "DAY")) rows_are ∙ h.3),
       first_value-rows f (codes "journal") ∙ (ap (first_of (codes "journal")) rows_are ∙ h.4),
+    )
+
+-- the matches of `explain` have the words that it is given
+pub explain_texts : (m : ArgMatches) (f : Found) (e : Explain) → Some (rows_of f) ≡ option_map (λ p. p.1) (subcommand_rows_of m) → (gives : GivesExplain m e)
+    → HasExplainTexts f gives.0
+explain_texts m f e same gives =
+    let some : Some (rows_of f) ≡ Some gives.1 = same ∙ ap (option_map (λ p. p.1)) gives.2 in
+    let rows_are : rows_of f ≡ gives.1 = cc in
+    let h = gives.3 in (
+      first_value-rows f (codes "FARES") ∙ (ap (first_of (codes "FARES")) rows_are ∙ h.0),
+      first_value-rows f (codes "ZONE") ∙ (ap (first_of (codes "ZONE")) rows_are ∙ h.1),
+      one_text-rows f (codes "ACCOUNT") ∙ (ap (one_of (codes "ACCOUNT")) rows_are ∙ h.2),
+      one_text-rows f (codes "DAY") ∙ (ap (one_of (codes "DAY")) rows_are ∙ h.3),
+      first_value-rows f (codes "journal") ∙ (ap (first_of (codes "journal")) rows_are ∙ h.4),
+      one_text-rows f (codes "week") ∙ (ap (one_of (codes "week")) rows_are ∙ h.5),
     )
 
 -- the matches of `replay` have its values
@@ -257,6 +276,7 @@ pub record ReadsJobs (m : ArgMatches) (r : Result Job WordsFault) : Type 0 where
   pub of_run : (x : Run) → GivesRun m x → IsAnswer (allowed (run x)) r
   pub of_check : (c : Check) → GivesCheck m c → IsAnswer (allowed (check c)) r
   pub of_statement : (s : Statement) → GivesStatement m s → IsOkAnd r (λ job. job_asked job ≡ statement s)
+  pub of_explain : (e : Explain) → GivesExplain m e → IsOkAnd r (λ job. job_asked job ≡ explain e)
   pub of_replay : (fares zone : Text) (files : List Text) → GivesReplay m fares zone files → IsJobOrMemory (replay fares zone files) r
   pub of_serve : (s : Serve) → GivesServe m s → IsAnswer (allowed (serve s)) r
   pub of_audit : (a : Audit) → GivesAudit m a → IsOkAnd r (λ job. job_asked job ≡ audit a)
@@ -266,6 +286,7 @@ pub job_read : (m : ArgMatches) (x : Asked) (r : Result Job WordsFault) → Give
 job_read m (run y) r h reads = answer_answers (allowed (run y)) r (reads.of_run y h)
 job_read m (check c) r h reads = answer_answers (allowed (check c)) r (reads.of_check c h)
 job_read m (statement s) r h reads = job_answers (statement s) r (reads.of_statement s h)
+job_read m (explain e) r h reads = job_answers (explain e) r (reads.of_explain e h)
 job_read m (replay a b files) r h reads = memory_answers (replay a b files) r (reads.of_replay a b files h)
 job_read m (serve s) r h reads = answer_answers (allowed (serve s)) r (reads.of_serve s h)
 job_read m (audit a) r h reads = job_answers (audit a) r (reads.of_audit a h)
@@ -279,6 +300,7 @@ job_words_are : (ws : List Text) (job : Job) → asked ws ≡ job_asked job → 
 job_words_are ws (RunJob w) e = subst (λ (x : Asked). AreWordsOf x (drop 1 ws)) e (in_order ws)
 job_words_are ws (CheckJob w) e = subst (λ (x : Asked). AreWordsOf x (drop 1 ws)) e (in_order ws)
 job_words_are ws (StatementJob w) e = subst (λ (x : Asked). AreWordsOf x (drop 1 ws)) e (in_order ws)
+job_words_are ws (ExplainJob w) e = subst (λ (x : Asked). AreWordsOf x (drop 1 ws)) e (in_order ws)
 job_words_are ws (Replay w) e = (subst (λ (x : Asked). AreWordsOf x (drop 1 ws)) e (in_order ws)).0
 job_words_are ws (ServeJob w) e = subst (λ (x : Asked). AreWordsOf x (drop 1 ws)) e (in_order ws)
 job_words_are ws (StayJob w) e = subst (λ (x : Asked). AreWordsOf x (drop 1 ws)) e (in_order ws)
@@ -325,6 +347,7 @@ asked_is_allowed (serve s) = go (is_whole s) refl
     go true is = rw is is
     go false is = rw is tt
 asked_is_allowed (statement s) = tt
+asked_is_allowed (explain e) = tt
 asked_is_allowed (replay a b files) = tt
 asked_is_allowed (audit a) = tt
 asked_is_allowed (rebuild fares ledger) = tt
@@ -369,6 +392,11 @@ job_in_range ws (StatementJob w) e =
     let made = job_words_are ws (StatementJob w) e in
     let account = number_in_range 1 4_294_967_295 made.0.account w.account made.4.0 (ap (λ (s : Statement). s.account) made.5) in
     let day = number_in_range 4 50_000 made.0.day w.day made.4.1 (ap (λ (s : Statement). s.day) made.5) in
+    (account.0, account.1, day.0, day.1)
+job_in_range ws (ExplainJob w) e =
+    let made = job_words_are ws (ExplainJob w) e in
+    let account = number_in_range 1 4_294_967_295 made.0.account w.account made.4.0 (ap (λ (x : Explain). x.account) made.5) in
+    let day = number_in_range 4 50_000 made.0.day w.day made.4.1 (ap (λ (x : Explain). x.day) made.5) in
     (account.0, account.1, day.0, day.1)
 job_in_range ws (Replay w) e = (subst (λ (x : Asked). AreWordsOf x (drop 1 ws)) e (in_order ws)).1
 job_in_range ws (ServeJob w) e =
@@ -427,6 +455,10 @@ module _ (r : Result Job WordsFault) (ws : List Text) (ok : IfOk r (λ job. aske
   pub result_statement : (name : Text) (t : StatementTexts) (parts : List Part) → ws ≡ name ∷ codes "statement" ∷ words_of_parts parts → AreStatementParts t parts → StandApart parts
       → slice_index t.fares 0 ≢ 45 → slice_index t.zone 0 ≢ 45 → HasNumbersInRange t → IsJobOrMemory (statement (statement_of_texts t)) r
   result_statement name t parts is are may f z n = job_or_memory r ws (statement (statement_of_texts t)) ok err (asks_statement ws name t parts is are may f z n) tt
+
+  pub result_explain : (name : Text) (t : ExplainTexts) (parts : List Part) → ws ≡ name ∷ codes "explain" ∷ words_of_parts parts → AreExplainParts t parts → StandApart parts
+      → slice_index t.fares 0 ≢ 45 → slice_index t.zone 0 ≢ 45 → HasAccountAndDayInRange t → IsJobOrMemory (explain (explain_of_texts t)) r
+  result_explain name t parts is are may f z n = job_or_memory r ws (explain (explain_of_texts t)) ok err (asks_explain ws name t parts is are may f z n) tt
 
   pub result_replay : (name fares zone file : Text) (files : List Text) → ws ≡ name ∷ codes "replay" ∷ fares ∷ zone ∷ file ∷ files
       → slice_index fares 0 ≢ 45 → slice_index zone 0 ≢ 45 → HaveNoHyphens (file ∷ files) → IsJobOrMemory (replay fares zone (file ∷ files)) r

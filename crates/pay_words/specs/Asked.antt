@@ -5,10 +5,11 @@ use Rattle.std.specs.Str.{bytes_eq, chars}
 use Rattle.std.specs.String.{string_bytes}
 use Rattle.clap.specs.Walk.{texts}
 use Rattle.pay_words.specs.declared.words.Job.{Job}
-use Rattle.pay_words.specs.declared.words.Job.TheVariants.{Run as RunJob, Check as CheckJob, Statement as StatementJob, Replay, Serve as ServeJob, Stay as StayJob, Audit as AuditJob, Rebuild}
+use Rattle.pay_words.specs.declared.words.Job.TheVariants.{Run as RunJob, Check as CheckJob, Statement as StatementJob, Explain as ExplainJob, Replay, Serve as ServeJob, Stay as StayJob, Audit as AuditJob, Rebuild}
 use Rattle.pay_words.specs.declared.words.RunWords.{RunWords}
 use Rattle.pay_words.specs.declared.words.CheckWords.{CheckWords}
 use Rattle.pay_words.specs.declared.words.StatementWords.{StatementWords}
+use Rattle.pay_words.specs.declared.words.ExplainWords.{ExplainWords}
 use Rattle.pay_words.specs.declared.words.ServeWords.{ServeWords}
 use Rattle.pay_words.specs.declared.words.StayWords.{StayWords}
 use Rattle.pay_words.specs.declared.words.Service.{Service}
@@ -21,9 +22,10 @@ pub use Rattle.pay_words.specs.OneWord.{Reader, any_text, is_account, is_day, nu
 pub use Rattle.pay_words.specs.Options.{HasNoHyphen}
 use Rattle.pay_words.specs.Options.{Part, Said, StandApart, all_of, all_said, help_wanted, not_taken, plain, apart, joined, plain_words, values_of, words_of_parts}
 use Rattle.pay_words.specs.Options.{port_option, lanes_option, shards_option, sessions_option, close_option, control_option, ahead_option, refused_option, journal_option, sync_option, ledger_option, early_option}
-use Rattle.pay_words.specs.Options.{lint_option, against_option, after_option}
+use Rattle.pay_words.specs.Options.{lint_option, against_option, after_option, week_option}
 use Rattle.pay_words.specs.Audit.{AreAuditParts, Audit, audit_grammar}
 use Rattle.pay_words.specs.Check.{AreCheckParts, Check, CheckTexts, HasAfterInRange, check_grammar, check_of_texts, has_against}
+use Rattle.pay_words.specs.Explain.{AreExplainParts, Explain, ExplainTexts, HasAccountAndDayInRange, explain_grammar, explain_of_texts}
 use Rattle.pay_words.specs.Rebuild.{rebuild_grammar}
 use Rattle.pay_words.specs.Run.{AreRunParts, Run, first_given, has_journal, is_given, run_grammar}
 use Rattle.pay_words.specs.Serve.{AreInRange, ArePartsOf, Serve, ServeTexts, is_whole, last_port, numbers_of, serve_grammar}
@@ -65,6 +67,8 @@ pub data Asked : Type 0 where
   check : Check → Asked
   -- `statement` with its fare file, zone, account and day, and the value of its option
   statement : Statement → Asked
+  -- `explain` with its fare file, zone, account and day, and the values of its options
+  explain : Explain → Asked
   -- `replay` with its fare file, zone and journals
   replay : Text → Text → List Text → Asked
   -- `serve` with its fare file, zone and the values of its options
@@ -133,6 +137,24 @@ abbrev pub statement_asked : Said → Asked
 statement_asked (all_of parts) = statement_of (plain_words parts) (values_of journal_option parts)
 statement_asked help_wanted = help_asked
 statement_asked not_taken = usage
+
+-- four values, one journal, and whether the flag was given
+abbrev pub explain_of : List Text → List Text → List Text → Asked
+explain_of (fares ∷ zone ∷ account ∷ day ∷ []) (j ∷ []) w = explain (explain_of_texts (record {
+  fares = fares;
+  zone = zone;
+  account = account;
+  day = day;
+  journal = j;
+  week = is_given w;
+}))
+explain_of _ _ _ = usage
+
+-- `explain FARES ZONE ACCOUNT DAY` and its options
+abbrev pub explain_asked : Said → Asked
+explain_asked (all_of parts) = explain_of (plain_words parts) (values_of journal_option parts) (values_of week_option parts)
+explain_asked help_wanted = help_asked
+explain_asked not_taken = usage
 
 -- `replay FARES ZONE FILE..`
 abbrev pub replay_asked : Given → Asked
@@ -203,12 +225,13 @@ abbrev pub program_asked : Text → List Text → Asked
 program_asked program rest = if bytes_eq (codes "run") program then run_asked (all_said run_grammar rest)
     else (if bytes_eq (codes "check") program then check_asked (all_said check_grammar rest)
     else (if bytes_eq (codes "statement") program then statement_asked (all_said statement_grammar rest)
+    else (if bytes_eq (codes "explain") program then explain_asked (all_said explain_grammar rest)
     else (if bytes_eq (codes "replay") program then replay_asked (many_given rest)
     else (if bytes_eq (codes "serve") program then serve_asked (all_said serve_grammar rest)
     else (if bytes_eq (codes "audit") program then audit_asked (all_said audit_grammar rest)
     else (if bytes_eq (codes "rebuild") program then rebuild_asked (all_said rebuild_grammar rest)
     else (if bytes_eq (codes "help") program then help_named
-    else option_asked (word_kind program))))))))
+    else option_asked (word_kind program)))))))))
 
 -- the first word is the program's own name, and the second names what it is to do
 abbrev pub words_ask : List Text → Asked
@@ -257,6 +280,16 @@ statement_job w = record {
   account = w.account;
   day = w.day;
   journal = option_map (λ s. s.now) w.journal;
+}
+
+abbrev pub explain_job : ExplainWords → Explain
+explain_job w = record {
+  fares = w.fares.now;
+  zone = w.zone.now;
+  account = w.account;
+  day = w.day;
+  journal = w.journal.now;
+  week = w.week;
 }
 
 abbrev pub served_job : ServeWords → Serve
@@ -323,6 +356,7 @@ abbrev pub job_asked : Job → Asked
 job_asked (RunJob w) = run (run_job w)
 job_asked (CheckJob w) = check (check_job w)
 job_asked (StatementJob w) = statement (statement_job w)
+job_asked (ExplainJob w) = explain (explain_job w)
 job_asked (Replay w) = replay w.fares.now w.zone.now (texts w.files.items)
 job_asked (ServeJob w) = serve (served_job w)
 job_asked (StayJob w) = serve (staying_job w)
@@ -343,6 +377,11 @@ abbrev pub AreStatementWords : Statement → List Text → Type 0
 AreStatementWords s words = (t : StatementTexts) × (parts : List Part) × (words ≡ codes "statement" ∷ words_of_parts parts)
     × AreStatementParts t parts × HasNumbersInRange t × (statement_of_texts t ≡ s)
 
+-- the words of `explain` do
+abbrev pub AreExplainWords : Explain → List Text → Type 0
+AreExplainWords e words = (t : ExplainTexts) × (parts : List Part) × (words ≡ codes "explain" ∷ words_of_parts parts)
+    × AreExplainParts t parts × HasAccountAndDayInRange t × (explain_of_texts t ≡ e)
+
 -- the words of `serve` do
 abbrev pub AreServeWords : Serve → List Text → Type 0
 AreServeWords s words = (t : ServeTexts) × (parts : List Part) × (words ≡ codes "serve" ∷ words_of_parts parts)
@@ -357,6 +396,7 @@ abbrev pub AreJobWords : Job → List Text → Type 0
 AreJobWords (RunJob w) words = AreRunWords (run_job w) words
 AreJobWords (CheckJob w) words = AreCheckWords (check_job w) words
 AreJobWords (StatementJob w) words = AreStatementWords (statement_job w) words
+AreJobWords (ExplainJob w) words = AreExplainWords (explain_job w) words
 AreJobWords (Replay w) words = words ≡ codes "replay" ∷ w.fares.now ∷ w.zone.now ∷ texts w.files.items
 AreJobWords (ServeJob w) words = AreServeWords (served_job w) words
 AreJobWords (StayJob w) words = AreServeWords (staying_job w) words
@@ -369,6 +409,7 @@ abbrev pub IsJobInRange : Job → Type 0
 IsJobInRange (RunJob w) = has_journal (run_job w) ≡ true
 IsJobInRange (CheckJob w) = (has_against (check_job w) ≡ true) × IfSome w.after (λ day. (FIRST_DAY ≤ day) × (day ≤ LAST_DAY))
 IsJobInRange (StatementJob w) = (1 ≤ w.account) × (w.account ≤ MOST_ACCOUNT) × (FIRST_DAY ≤ w.day) × (w.day ≤ LAST_DAY)
+IsJobInRange (ExplainJob w) = (1 ≤ w.account) × (w.account ≤ MOST_ACCOUNT) × (FIRST_DAY ≤ w.day) × (w.day ≤ LAST_DAY)
 IsJobInRange (Replay w) = texts w.files.items ≢ []
 IsJobInRange (ServeJob w) = (1 ≤ w.port) × (1 ≤ w.lanes) × (w.lanes ≤ MOST_SERVED_LANES) × (last_port w.port w.lanes ≤ MOST_PORT)
     × (1 ≤ w.shards) × (w.shards ≤ MOST_SHARDS) × (1 ≤ w.sessions) × (w.sessions ≤ MOST_SESSIONS)
@@ -429,6 +470,13 @@ abbrev pub StatementIsTaken : List Text → Result Job WordsFault → Type 0
 StatementIsTaken words result = (name : Text) (t : StatementTexts) (parts : List Part) → words ≡ name ∷ codes "statement" ∷ words_of_parts parts
     → AreStatementParts t parts → StandApart parts → HasNoHyphen t.fares → HasNoHyphen t.zone → HasNumbersInRange t
     → IsJobOrMemory (statement (statement_of_texts t)) result
+
+-- two words with no hyphen before them, two numbers in their ranges, the journal that is needed and perhaps the flag,
+-- anywhere, are those of `explain`
+abbrev pub ExplainIsTaken : List Text → Result Job WordsFault → Type 0
+ExplainIsTaken words result = (name : Text) (t : ExplainTexts) (parts : List Part) → words ≡ name ∷ codes "explain" ∷ words_of_parts parts
+    → AreExplainParts t parts → StandApart parts → HasNoHyphen t.fares → HasNoHyphen t.zone → HasAccountAndDayInRange t
+    → IsJobOrMemory (explain (explain_of_texts t)) result
 
 -- three words or more with no hyphen before them are the values of `replay`
 abbrev pub ReplayIsTaken : List Text → Result Job WordsFault → Type 0
@@ -710,6 +758,71 @@ refused_before_help_row = refl
 statement_help_row : row (codes "statement" ∷ codes "a" ∷ codes "b" ∷ codes "7" ∷ codes "-h" ∷ []) ≡ help_asked
 unfolding chars
 statement_help_row = refl
+
+abbrev explain_words : Text → Text → List Text → List Text
+explain_words account day rest = codes "explain" ∷ codes "a" ∷ codes "b" ∷ account ∷ day ∷ rest
+
+abbrev day_of_7 : Explain
+day_of_7 = record { fares = codes "a"; zone = codes "b"; account = 7; day = 19_730; journal = codes "j"; week = false }
+
+explain_row : row (explain_words (codes "7") (codes "19730") (codes "--journal" ∷ codes "j" ∷ [])) ≡ explain day_of_7
+unfolding chars
+explain_row = refl
+
+-- options before, between and after the values
+all_explain_row : row (codes "explain" ∷ codes "--week" ∷ codes "a" ∷ codes "b" ∷ codes "--journal=-j" ∷ codes "+7" ∷ codes "--" ∷ codes "019730" ∷ [])
+    ≡ explain (record day_of_7 { journal = codes "-j"; week = true })
+unfolding chars
+all_explain_row = refl
+
+explain_last_row : row (explain_words (codes "4294967295") (codes "50000") (codes "--journal=j" ∷ codes "--week" ∷ []))
+    ≡ explain (record day_of_7 { account = 4_294_967_295; day = 50_000; week = true })
+unfolding chars
+explain_last_row = refl
+
+-- a journal is needed, and given once
+explain_no_journal_row : row (explain_words (codes "7") (codes "19730") (codes "--week" ∷ [])) ≡ usage
+unfolding chars
+explain_no_journal_row = refl
+
+explain_journal_twice_row : row (explain_words (codes "7") (codes "19730") (codes "--journal=j" ∷ codes "--journal=j" ∷ [])) ≡ usage
+unfolding chars
+explain_journal_twice_row = refl
+
+-- the flag has no value, and is given once
+week_value_row : row (explain_words (codes "7") (codes "19730") (codes "--journal=j" ∷ codes "--week=true" ∷ [])) ≡ usage
+unfolding chars
+week_value_row = refl
+
+week_twice_row : row (explain_words (codes "7") (codes "19730") (codes "--journal=j" ∷ codes "--week" ∷ codes "--week" ∷ [])) ≡ usage
+unfolding chars
+week_twice_row = refl
+
+explain_account_0_row : row (explain_words (codes "0") (codes "19730") (codes "--journal=j" ∷ [])) ≡ usage
+unfolding chars
+explain_account_0_row = refl
+
+explain_day_3_row : row (explain_words (codes "7") (codes "3") (codes "--journal=j" ∷ [])) ≡ usage
+unfolding chars
+explain_day_3_row = refl
+
+explain_no_day_row : row (codes "explain" ∷ codes "a" ∷ codes "b" ∷ codes "7" ∷ codes "--journal=j" ∷ []) ≡ usage
+unfolding chars
+explain_no_day_row = refl
+
+-- what was posted is not asked
+explain_ledger_row : row (explain_words (codes "7") (codes "19730") (codes "--journal=j" ∷ codes "--ledger=l" ∷ [])) ≡ usage
+unfolding chars
+explain_ledger_row = refl
+
+explain_help_row : row (codes "explain" ∷ codes "a" ∷ codes "--week" ∷ codes "-h" ∷ []) ≡ help_asked
+unfolding chars
+explain_help_row = refl
+
+-- a statement is of a week always
+statement_week_row : row (statement_words (codes "7") (codes "19730") ++ codes "--week" ∷ []) ≡ usage
+unfolding chars
+statement_week_row = refl
 
 abbrev example : Serve
 example = record {

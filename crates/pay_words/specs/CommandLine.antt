@@ -18,6 +18,7 @@ use Rattle.pay_words.specs.declared.limits.TheConstants.{MOST_ACCOUNT, FIRST_DAY
 use Rattle.pay_words.specs.Asked.{version_line}
 use Rattle.pay_words.specs.Audit.{Audit}
 use Rattle.pay_words.specs.Check.{Check, CheckTexts, HasAfterInRange, check_of_texts}
+use Rattle.pay_words.specs.Explain.{Explain, ExplainTexts, HasAccountAndDayInRange, explain_of_texts}
 use Rattle.pay_words.specs.Run.{Run}
 use Rattle.pay_words.specs.Serve.{AreInRange, Serve, ServeTexts, numbers_of}
 use Rattle.pay_words.specs.Statement.{HasNumbersInRange, Statement, StatementTexts, statement_of_texts}
@@ -74,11 +75,18 @@ with_against app = with_rule (with_rule app (text_option (codes "against"))) (op
 abbrev pub check_app : App
 check_app = with_against (with_rule (with_rule (new_app (codes "check")) (required_word (codes "FARES"))) (flag_option (codes "lint")))
 
+-- the words FARES, ZONE, ACCOUNT and DAY
+abbrev pub with_account_and_day : App → App
+with_account_and_day app = with_rule (with_rule (with_fares_and_zone app)
+    (required_number (codes "ACCOUNT") 1 MOST_ACCOUNT)) (required_number (codes "DAY") FIRST_DAY LAST_DAY)
+
 -- `statement FARES ZONE ACCOUNT DAY [--journal FILE]`
 abbrev pub statement_app : App
-statement_app = with_rule (with_rule (with_rule (with_fares_and_zone (new_app (codes "statement")))
-    (required_number (codes "ACCOUNT") 1 MOST_ACCOUNT)) (required_number (codes "DAY") FIRST_DAY LAST_DAY))
-    (text_option (codes "journal"))
+statement_app = with_rule (with_account_and_day (new_app (codes "statement"))) (text_option (codes "journal"))
+
+-- `explain FARES ZONE ACCOUNT DAY --journal PATH [--week]`
+abbrev pub explain_app : App
+explain_app = with_rule (with_rule (with_account_and_day (new_app (codes "explain"))) (required_text (codes "journal"))) (flag_option (codes "week"))
 
 -- `replay FARES ZONE FILE..`
 abbrev pub replay_app : App
@@ -111,10 +119,10 @@ rebuild_app = with_rule (with_rule (new_app (codes "rebuild")) (required_word (c
 
 -- the program, which has a version, and wants one of its programs named
 abbrev pub farebox_app : App
-farebox_app = with_subcommand (with_subcommand (with_subcommand (with_subcommand (with_subcommand (with_subcommand (with_subcommand
+farebox_app = with_subcommand (with_subcommand (with_subcommand (with_subcommand (with_subcommand (with_subcommand (with_subcommand (with_subcommand
     (on_top (λ top. record top { has_version = true; subcommand_required = true })
     (new_app (codes "farebox")))
-    run_app.top) check_app.top) statement_app.top) replay_app.top) serve_app.top) audit_app.top) rebuild_app.top
+    run_app.top) check_app.top) statement_app.top) explain_app.top) replay_app.top) serve_app.top) audit_app.top) rebuild_app.top
 
 -- ---- the matches
 
@@ -169,6 +177,23 @@ abbrev pub HasStatementTexts : Found → StatementTexts → Type 0
 HasStatementTexts f t = (first_value f (codes "FARES") ≡ Some t.fares) × (first_value f (codes "ZONE") ≡ Some t.zone)
     × (one_text f (codes "ACCOUNT") ≡ Some t.account) × (one_text f (codes "DAY") ≡ Some t.day)
     × (first_value f (codes "journal") ≡ t.journal)
+
+-- these rows have the words that `explain` is given
+abbrev pub HaveExplainTexts : List Row → ExplainTexts → Type 0
+HaveExplainTexts rows t = (first_of (codes "FARES") rows ≡ Some t.fares) × (first_of (codes "ZONE") rows ≡ Some t.zone)
+    × (one_of (codes "ACCOUNT") rows ≡ Some t.account) × (one_of (codes "DAY") rows ≡ Some t.day)
+    × (first_of (codes "journal") rows ≡ Some t.journal) × (one_of (codes "week") rows ≡ Some (flag_text t.week))
+
+-- the matches are those of `explain` with these values, and words in their ranges for the numbers
+abbrev pub GivesExplain : ArgMatches → Explain → Type 0
+GivesExplain m e = (t : ExplainTexts) × (rows : List Row) × (subcommand_rows_of m ≡ Some (codes "explain", rows))
+    × HaveExplainTexts rows t × HasAccountAndDayInRange t × (explain_of_texts t ≡ e)
+
+-- the matches have the words that `explain` is given
+abbrev pub HasExplainTexts : Found → ExplainTexts → Type 0
+HasExplainTexts f t = (first_value f (codes "FARES") ≡ Some t.fares) × (first_value f (codes "ZONE") ≡ Some t.zone)
+    × (one_text f (codes "ACCOUNT") ≡ Some t.account) × (one_text f (codes "DAY") ≡ Some t.day)
+    × (first_value f (codes "journal") ≡ Some t.journal) × (one_text f (codes "week") ≡ Some (flag_text t.week))
 
 -- the subcommand that the matches have, with its values and its files
 abbrev pub values_and_files : Text × List Row → Text × Option Text × Option Text × Option (List Text)

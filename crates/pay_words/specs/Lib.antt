@@ -2,6 +2,7 @@ pub mod CommandLine
 pub mod Asked
 pub mod Audit
 pub mod Check
+pub mod Explain
 pub mod OneWord
 pub mod Options
 pub mod Rebuild

@@ -40,6 +40,7 @@ pub data Setting : Type 0 where
   lint_option : Setting
   against_option : Setting
   after_option : Setting
+  week_option : Setting
 
 abbrev pub name_of : Setting → Text
 name_of port_option = codes "port"
@@ -57,6 +58,7 @@ name_of early_option = codes "early"
 name_of lint_option = codes "lint"
 name_of against_option = codes "against"
 name_of after_option = codes "after"
+name_of week_option = codes "week"
 
 abbrev pub is_flag : Setting → Bool
 is_flag port_option = false
@@ -74,6 +76,7 @@ is_flag early_option = true
 is_flag lint_option = true
 is_flag against_option = false
 is_flag after_option = false
+is_flag week_option = true
 
 -- the value that a flag is given with
 abbrev pub flag_value : Text
@@ -99,6 +102,7 @@ reader_of early_option = is_flag_value
 reader_of lint_option = is_flag_value
 reader_of against_option = any_text
 reader_of after_option = is_day
+reader_of week_option = is_flag_value
 
 -- what a program takes: values in these places, in order, and these options, in any
 pub record Grammar : Type 0 where

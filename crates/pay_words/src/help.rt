@@ -15,6 +15,10 @@ it has, or its first fault; or compare it with another";
 pub const STATEMENT: &str = "\
 Read taps and corrections from standard input, and print the statement of an account's week as CSV";
 
+/// What `explain` does.
+pub const EXPLAIN: &str = "\
+Read journals, and say why an account's day or week was charged, in plain words";
+
 /// What `replay` does.
 pub const REPLAY: &str = "\
 Read journals, and print how many lines and accounts they have, with the first and last
@@ -49,6 +53,10 @@ pub const ACCOUNT: &str = "The account, a number from 1 to 4294967295";
 pub const DAY: &str = "\
 A service day of the week, counted from 1970-01-01: a number from 4 to 50000";
 
+/// What the word DAY of `explain` is.
+pub const DAY_EXPLAINED: &str = "\
+The service day, counted from 1970-01-01: a number from 4 to 50000";
+
 /// What the words FILE.. are.
 pub const FILES: &str = "The journals, files of lines that were accepted";
 
@@ -71,8 +79,15 @@ A folder of the lines that were accepted, a file for each shard. They are
 taken first, and each line that is accepted is added before its reply. The
 files are made if they are missing, the folder is not";
 
+/// What the option `--journal` of `explain` is.
+pub const JOURNAL_EXPLAINED: &str = "\
+A journal that has the account, or a folder of journals; it is only read";
+
 /// What the option `--journal` of `audit` is.
 pub const JOURNAL_AUDITED: &str = "A journal, or a folder of journals; it is only read";
+
+/// What the option `--week` is.
+pub const WEEK: &str = "Explain its week through that day, in place of the day alone";
 
 /// What the option `--sync` is.
 pub const SYNC: &str = "\
@@ -144,14 +159,15 @@ For a service that stays: a file to which lines that are refused by 1, 15,
 
 /// What stands below the program's own help.
 pub const BELOW_PROGRAM: &str = "\
-Words of run (FARES ZONE), of check (FARES), of statement (FARES ZONE ACCOUNT DAY), of replay
-(FARES ZONE FILE..), of serve (FARES ZONE --port P --lanes L --shards N --sessions K --close DAY, or
-FARES ZONE --port P --lanes L --shards N --control C --journal FOLDER --ledger FILE), of audit
-(FARES ZONE --journal PATH) and of rebuild (FARES LEDGER), with options in any order:
+Words of run (FARES ZONE), of check (FARES), of statement (FARES ZONE ACCOUNT DAY), of explain
+(FARES ZONE ACCOUNT DAY --journal PATH), of replay (FARES ZONE FILE..), of serve (FARES ZONE
+--port P --lanes L --shards N --sessions K --close DAY, or FARES ZONE --port P --lanes L --shards N
+--control C --journal FOLDER --ledger FILE), of audit (FARES ZONE --journal PATH) and of rebuild
+(FARES LEDGER), with options in any order:
   FARES    the fare file, a TOML document, which may hold editions, fares that hold from a day on
   ZONE     the time zone, a POSIX rule text (a name such as Europe/London is none)
   ACCOUNT  the account, a number from 1 to 4294967295
-  DAY      a service day, counted from 1970-01-01: of the week, or the one that is closed
+  DAY      a service day, counted from 1970-01-01: of the week, or what is explained or closed
   P        the port of the first lane, each further lane has the next port; with C, of all lanes
   L        how many lanes there are, from 1 to 15; with C, from 1 to 14
   N        how many shards the accounts are spread over, from 1 to 16
@@ -163,10 +179,10 @@ FARES ZONE --port P --lanes L --shards N --control C --journal FOLDER --ledger F
 
 Further options: --journal FILE and --ledger FILE of run, and --sync with --journal; --lint and
 --against OLD of check, where OLD is another fare file, and --after DAY with --against; --journal
-FILE of statement, where it is only read; --journal FOLDER and --ledger FILE of serve; --ahead S of
-serve with --control, to refuse taps more than S seconds ahead of this machine's clock, and --refused
-FILE, to which refused lines are added; --early of run and of serve, to close a day that is not over
-yet; --ledger FILE of audit.
+FILE of statement, where it is only read; --week of explain, for the week through DAY; --journal
+FOLDER and --ledger FILE of serve; --ahead S of serve with --control, to refuse taps more than S
+seconds ahead of this machine's clock, and --refused FILE, to which refused lines are added; --early
+of run and of serve, to close a day that is not over yet; --ledger FILE of audit.
 
 Example: account 7 boards a bus in London on Monday 8 January 2024 at 07:00. The reply names the
 day, counted from 1970-01-01, its price and that of its week, in pence.
@@ -240,6 +256,18 @@ Statuses:
   2  the words were refused
 
 The lines, the fare file, the statement and the faults are described in docs/FORMATS.md.";
+
+/// What stands below the help of `explain`.
+pub const BELOW_EXPLAIN: &str = "\
+PATH is the FILE of `run --journal FILE`, or the FOLDER of `serve --journal FOLDER`. Standard input
+is not read.
+
+Statuses:
+  0  all right
+  1  a fault, which one line on standard error names
+  2  the words were refused
+
+The journal, the fare file and the faults are described in docs/FORMATS.md.";
 
 /// What stands below the help of `replay`.
 pub const BELOW_REPLAY: &str = "\

@@ -4,26 +4,27 @@ ghost use Rattle.std.specs.Prelude.{IfOk, IfErr, IsSomeAnd, None, Some};
 ghost use Rattle.clap.specs.Walk.{texts};
 ghost use Rattle.clap.specs.Words.{app_of, first_value, found_of, kind_of, one_text};
 ghost use Rattle.clap.specs.declared.builder.command.Command.TheViews.{out-Command as fields_of};
-ghost use Rattle.pay_words.specs.CommandLine.{GivesAudit, GivesCheck, GivesRebuild, GivesReplay, GivesRun, GivesServe, GivesStatement};
-ghost use Rattle.pay_words.specs.CommandLine.{HasAudit, HasCheckTexts, HasFaresAndLedger, HasFaresAndZone, HasFiles, HasRun, HasServeTexts, HasStatementTexts};
+ghost use Rattle.pay_words.specs.CommandLine.{GivesAudit, GivesCheck, GivesExplain, GivesRebuild, GivesReplay, GivesRun, GivesServe, GivesStatement};
+ghost use Rattle.pay_words.specs.CommandLine.{HasAudit, HasCheckTexts, HasExplainTexts, HasFaresAndLedger, HasFaresAndZone, HasFiles, HasRun, HasServeTexts, HasStatementTexts};
 ghost use Rattle.pay_words.specs.CommandLine.{IsFaultOfKind, IsHelpOrMemory, IsVersionOrMemory, flag_text};
-ghost use Rattle.pay_words.specs.CommandLine.{audit_app, check_app, farebox_app, rebuild_app, replay_app, run_app, serve_app, statement_app};
+ghost use Rattle.pay_words.specs.CommandLine.{audit_app, check_app, explain_app, farebox_app, rebuild_app, replay_app, run_app, serve_app, statement_app};
 ghost use Rattle.pay_words.specs.CommandLine.{flag_option, optional_number, required_number, required_option, required_text, required_word};
-ghost use Rattle.pay_words.specs.CommandLine.{required_words, text_option, with_against, with_end, with_fares_and_zone, with_ledger, with_numbers};
+ghost use Rattle.pay_words.specs.CommandLine.{required_words, text_option, with_account_and_day, with_against, with_end, with_fares_and_zone, with_ledger, with_numbers};
 ghost use Rattle.clap.specs.Words.{App, with_rule, with_subcommand};
 ghost use Rattle.clap.specs.ValueTests.{is_unsigned_in};
 ghost use Rattle.clap.specs.Walk.{rule_of};
 ghost use Rattle.pay_words.specs.Asked.{IsFaultOf, Text, asked, job_asked, AreJobWords, IsJob, IsJobInRange};
-ghost use Rattle.pay_words.specs.Asked.{RunIsTaken, CheckIsTaken, StatementIsTaken, ReplayIsTaken, ServeIsTaken, AuditIsTaken, RebuildIsTaken};
-ghost use Rattle.pay_words.specs.Asked.{IsAnswer, IsJobOrMemory, allowed, audit_job, check_job, run_job, served_job, service_values, statement_job};
+ghost use Rattle.pay_words.specs.Asked.{RunIsTaken, CheckIsTaken, StatementIsTaken, ExplainIsTaken, ReplayIsTaken, ServeIsTaken, AuditIsTaken, RebuildIsTaken};
+ghost use Rattle.pay_words.specs.Asked.{IsAnswer, IsJobOrMemory, allowed, audit_job, check_job, explain_job, run_job, served_job, service_values, statement_job};
 ghost use Rattle.pay_words.specs.OneWord.{is_port};
 ghost use Rattle.pay_words.specs.Audit.{Audit};
 ghost use Rattle.pay_words.specs.Check.{Check, CheckTexts, HasAfterInRange, check_of_texts, has_against};
+ghost use Rattle.pay_words.specs.Explain.{Explain, ExplainTexts, HasAccountAndDayInRange, explain_of_texts};
 ghost use Rattle.pay_words.specs.Run.{Run, has_journal};
 ghost use Rattle.pay_words.specs.Serve.{AreInRange, Serve, ServeTexts, has_more, has_no_end, has_ports, leaves_room, numbers_of};
 ghost use Rattle.pay_words.specs.Statement.{HasNumbersInRange, Statement, StatementTexts, statement_of_texts};
 ghost use Rattle.pay_words.specs.Asked.{check as check_asked, run as run_asked, without_dashes};
-ghost use Rattle.pay_words.specs.Asked.{audit as audit_asked, rebuild as rebuild_asked};
+ghost use Rattle.pay_words.specs.Asked.{audit as audit_asked, explain as explain_asked, rebuild as rebuild_asked};
 ghost use Rattle.pay_words.specs.Asked.{replay as replay_asked, serve as serve_asked, statement as statement_asked, number_of};
 ghost use Rattle.pay_words.specs.declared.words.WordsFault.TheVariants.{Memory};
 
@@ -52,6 +53,9 @@ pub enum Job<'a> {
     /// `statement FARES ZONE ACCOUNT DAY` and its option: the statement of an account's week, by the lines of
     /// a journal and of standard input.
     Statement(StatementWords<'a>),
+    /// `explain FARES ZONE ACCOUNT DAY --journal PATH` and its option: why an account's day was charged, or its week
+    /// through that day.
+    Explain(ExplainWords<'a>),
     /// `replay FARES ZONE FILE..`: whether journals can be taken again, and how many lines they have.
     Replay(ReplayWords<'a>),
     /// `serve FARES ZONE --port P --lanes L --shards N --sessions K --close DAY` and the options that may be
@@ -112,6 +116,23 @@ pub struct StatementWords<'a> {
     pub day: u32,
     /// The path of the file of accepted lines, which are taken first; it is only read.
     pub journal: Option<&'a str>,
+}
+
+/// The values of `explain FARES ZONE ACCOUNT DAY --journal PATH [--week]`.
+#[derive(Clone, Copy)]
+pub struct ExplainWords<'a> {
+    /// The path of the fare file.
+    pub fares: &'a str,
+    /// The text of the time zone, a POSIX rule.
+    pub zone: &'a str,
+    /// The account: 1 to 4,294,967,295.
+    pub account: u32,
+    /// The service day, counted from 1970-01-01: 4 to 50,000.
+    pub day: u32,
+    /// The path of a journal, or of a folder of journals; it is only read.
+    pub journal: &'a str,
+    /// Whether the week through that day is asked for, in place of the day alone.
+    pub week: bool,
 }
 
 /// The values of `replay FARES ZONE FILE..`.
@@ -248,8 +269,9 @@ impl From<AllocError> for WordsFault {
 ///
 /// A word that begins with a hyphen and goes on is an option: help, in the place of a program the
 /// version, one of the options of its program, and no other. The value of an option is the next word, or
-/// stands after an equals sign in the same; `--sync`, `--early` and `--lint` have none. `--sync` is taken with
-/// `--journal` alone, and `--after` with `--against`. Each is given once, before, between or after the other values.
+/// stands after an equals sign in the same; `--sync`, `--early`, `--lint` and `--week` have none. `--sync` is taken
+/// with `--journal` alone, and `--after` with `--against`. Each is given once, before, between or after the other
+/// values.
 /// `--` says that each word after it is a value. Numbers are decimal digits, which may have a plus and zeros
 /// before them; one outside its range is refused as `Usage`, and so are lanes with a port above 65,535. With
 /// `--control` a service stays. It then has no `--sessions` and no `--close`, at most 14 lanes, a journal and
@@ -277,6 +299,10 @@ pub fn read_words<'a>(alloc: Global, words: &'a [&'a str]) -> Result<Job<'a>, Wo
     // Two words with no hyphen before them, two numbers in their ranges, and perhaps a journal, anywhere, are the
     // values of `statement`.
     ensures statement { StatementIsTaken (texts words.entry.now) result }
+
+    // Two words with no hyphen before them, two numbers in their ranges, a journal, and perhaps the flag, in any order,
+    // are the values of `explain`.
+    ensures explain { ExplainIsTaken (texts words.entry.now) result }
 
     // Three words or more with no hyphen before them are the values of `replay`.
     ensures replay { ReplayIsTaken (texts words.entry.now) result }
@@ -309,10 +335,11 @@ fn farebox_command<'a>(alloc: Global) -> Result<Command<'a>, AllocError>
     let one = with_program(Ok(top), run_command(alloc));
     let two = with_program(one, check_command(alloc));
     let three = with_program(two, statement_command(alloc));
-    let four = with_program(three, replay_command(alloc));
-    let five = with_program(four, serve_command(alloc));
-    let six = with_program(five, audit_command(alloc));
-    with_program(six, rebuild_command(alloc))
+    let four = with_program(three, explain_command(alloc));
+    let five = with_program(four, replay_command(alloc));
+    let six = with_program(five, serve_command(alloc));
+    let seven = with_program(six, audit_command(alloc));
+    with_program(seven, rebuild_command(alloc))
 }
 
 /// A command with a program more, if both could be made.
@@ -419,12 +446,39 @@ fn statement_command<'a>(alloc: Global) -> Result<Command<'a>, AllocError>
     let command = Command::new(alloc, "statement")
         .about(help::STATEMENT)
         .after_help(help::BELOW_STATEMENT);
-    let numbered = with_two(
+    let numbered = with_account_and_day(alloc, command, help::DAY)?;
+    numbered.arg(text_option(alloc, "journal", "FILE", help::JOURNAL_READ))
+}
+
+/// A command with the words FARES, ZONE, ACCOUNT and DAY, after those that it has; help says what the day is.
+fn with_account_and_day<'a>(
+    alloc: Global,
+    command: Command<'a>,
+    day: &'a str,
+) -> Result<Command<'a>, AllocError>
+    requires { (fields_of command).has_globals ≡ false }
+    ensures app { IfOk result (λ r. app_of r ≡ with_account_and_day (app_of command.entry)) }
+    ensures local { IfOk result (λ r. (fields_of r).has_globals ≡ false) }
+{
+    with_two(
         with_fares_and_zone(alloc, command)?,
         number_word(alloc, "ACCOUNT", help::ACCOUNT, 1, MOST_ACCOUNT),
-        number_word(alloc, "DAY", help::DAY, FIRST_DAY, LAST_DAY),
-    )?;
-    numbered.arg(text_option(alloc, "journal", "FILE", help::JOURNAL_READ))
+        number_word(alloc, "DAY", day, FIRST_DAY, LAST_DAY),
+    )
+}
+
+fn explain_command<'a>(alloc: Global) -> Result<Command<'a>, AllocError>
+    ensures app { IfOk result (λ command. app_of command ≡ explain_app) }
+    ensures local { IfOk result (λ command. (fields_of command).has_globals ≡ false) }
+{
+    let command = Command::new(alloc, "explain")
+        .about(help::EXPLAIN)
+        .after_help(help::BELOW_EXPLAIN);
+    with_two(
+        with_account_and_day(alloc, command, help::DAY_EXPLAINED)?,
+        required_text(alloc, "journal", "PATH", help::JOURNAL_EXPLAINED),
+        flag_option(alloc, "week", help::WEEK),
+    )
 }
 
 fn replay_command<'a>(alloc: Global) -> Result<Command<'a>, AllocError>
@@ -603,6 +657,7 @@ fn job_of<'a>(alloc: Global, matches: &ArgMatches<'a>) -> Result<Job<'a>, WordsF
     ensures run { (r : Run) → GivesRun matches.now r → IsAnswer (allowed (run_asked r)) result }
     ensures check { (c : Check) → GivesCheck matches.now c → IsAnswer (allowed (check_asked c)) result }
     ensures statement { (s : Statement) → GivesStatement matches.now s → IsJob (statement_asked s) result }
+    ensures explain { (e : Explain) → GivesExplain matches.now e → IsJob (explain_asked e) result }
     ensures replay { (fares zone : Text) (files : List Text)
         → GivesReplay matches.now fares zone files → IsJobOrMemory (replay_asked fares zone files) result }
     ensures serve { (s : Serve) → GivesServe matches.now s → IsAnswer (allowed (serve_asked s)) result }
@@ -613,6 +668,7 @@ fn job_of<'a>(alloc: Global, matches: &ArgMatches<'a>) -> Result<Job<'a>, WordsF
         Some(("run", run)) => run_job(run),
         Some(("check", check)) => check_job(check),
         Some(("statement", statement)) => statement_job(statement),
+        Some(("explain", explain)) => explain_job(explain),
         Some(("replay", replay)) => replay_job(alloc, replay),
         Some(("serve", serve)) => serve_job(serve),
         Some(("audit", audit)) => audit_job(audit),
@@ -728,6 +784,30 @@ fn statement_words<'a>(statement: &ArgMatches<'a>) -> Option<StatementWords<'a>>
         account: number_of(statement, "ACCOUNT")?,
         day: number_of(statement, "DAY")?,
         journal: statement.get_str("journal"),
+    })
+}
+
+fn explain_job<'a>(explain: &ArgMatches<'a>) -> Result<Job<'a>, WordsFault>
+    ensures { (t : ExplainTexts) → HasExplainTexts (found_of explain.now) t → HasAccountAndDayInRange t
+        → IsJob (explain_asked (explain_of_texts t)) result }
+{
+    match explain_words(explain) {
+        Some(words) => Ok(Job::Explain(words)),
+        None => Err(WordsFault::Usage),
+    }
+}
+
+fn explain_words<'a>(explain: &ArgMatches<'a>) -> Option<ExplainWords<'a>>
+    ensures { (t : ExplainTexts) → HasExplainTexts (found_of explain.now) t → HasAccountAndDayInRange t
+        → IsSomeAnd result (λ words. explain_job words ≡ explain_of_texts t) }
+{
+    Some(ExplainWords {
+        fares: explain.get_str("FARES")?,
+        zone: explain.get_str("ZONE")?,
+        account: number_of(explain, "ACCOUNT")?,
+        day: number_of(explain, "DAY")?,
+        journal: explain.get_str("journal")?,
+        week: is_flagged(explain, "week"),
     })
 }
 

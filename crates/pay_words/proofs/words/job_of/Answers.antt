@@ -1,5 +1,5 @@
 use Rattle.clap.specs.Words.{found_of}
-use Rattle.pay_words.proofs.Results.{audit_values, check_texts, rebuild_values, replay_values, run_values, serve_texts, statement_texts}
+use Rattle.pay_words.proofs.Results.{audit_values, check_texts, explain_texts, rebuild_values, replay_values, run_values, serve_texts, statement_texts}
 use Rattle.pay_words.proofs.words.job_of.Goals as goal
 
 pub returns-in-Some-run-default-clause-run : goal.returns-in-Some-run-default-clause-run
@@ -15,6 +15,11 @@ pub returns-in-Some-statement-default-clause-statement : goal.returns-in-Some-st
 returns-in-Some-statement-default-clause-statement c = λ s gives.
     let found = found_of c.in-Some-statement-default.statement.now in
     rw (← gives.5) (c.statement_job.ensures gives.0 (statement_texts c.args.matches.now found s c.in-Some-statement-default.ensures.rows gives) gives.4)
+
+pub returns-in-Some-explain-default-clause-explain : goal.returns-in-Some-explain-default-clause-explain
+returns-in-Some-explain-default-clause-explain c = λ e gives.
+    let found = found_of c.in-Some-explain-default.explain.now in
+    rw (← gives.5) (c.explain_job.ensures gives.0 (explain_texts c.args.matches.now found e c.in-Some-explain-default.ensures.rows gives) gives.4)
 
 pub returns-in-Some-replay-default-clause-replay : goal.returns-in-Some-replay-default-clause-replay
 returns-in-Some-replay-default-clause-replay c = λ fares zone files gives.
