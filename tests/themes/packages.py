@@ -363,6 +363,8 @@ class Documents(Theme):
         self.offers(["run", "bus.toml", LONDON, "--early", "--e"], [])
         self.offers(["replay", "bus.toml", LONDON, "a", "two."], ["two.toml"])
         self.offers(["serve", "--journal", "bu"], [])
+        self.offers(["serve", "--greeting", "bu"], [])
+        self.offers(["explain", "--journal", "bu"], ["bus.toml"])
         self.offers(["fly", ""], [])
         self.offers(["fly", "--"], [])
 

@@ -74,8 +74,9 @@ Further options: --journal FILE and --ledger FILE of run, and --sync with --jour
 --against OLD of check, where OLD is another fare file, and --after DAY with --against; --journal
 FILE of statement, where it is only read; --week of explain, for the week through DAY; --journal
 FOLDER and --ledger FILE of serve; --ahead S of serve with --control, to refuse taps more than S
-seconds ahead of this machine's clock, and --refused FILE, to which refused lines are added; --early
-of run and of serve, to close a day that is not over yet; --ledger FILE of audit.
+seconds ahead of this machine's clock, --refused FILE, to which refused lines are added, and
+--greeting TEXT, with which connections begin; --early of run and of serve, to close a day that is
+not over yet; --ledger FILE of audit.
 """ + RUN_EXAMPLE + STATUSES + RUN_FORMATS
 RUN_HELP = b"""\
 Read taps, corrections and closes from standard input, and reply to each
@@ -233,6 +234,9 @@ Options:
                           of this machine's clock, by 1. From 0 to 86400
       --refused <FILE>    For a service that stays: a file to which lines that are refused by 1, 15,
                           20 to 23, 50 or 51 are added, so that they can be sent again
+      --greeting <TEXT>   For a service that stays: the line with which each connection has to
+                          begin. 1 to 128 printable ASCII characters, no space at either end; not
+                          STOP, STATS or BACKUP PATH
       --journal <FOLDER>  A folder of the lines that were accepted, a file for each shard. They are
                           taken first, and each line that is accepted is added before its reply. The
                           files are made if they are missing, the folder is not
@@ -594,6 +598,15 @@ TO_STAY = [
     "--ledger", "b",
 ]
 FULL_STAY = ["--shards=16", "--lanes=14", "--port=65535"]
+# Texts that are no greeting, and texts that are: 1 to 128 printable ASCII characters, with no space at either end, and
+# no line that staff send.
+NO_GREETINGS = (
+    "", " ", " a", "a ", "a\tb", "a\n", "a\r", "\x1f", "\x7f", "\u00e9", "x" * 129, "STOP", "STATS", "BACKUP ",
+    "BACKUP /a", "BACKUP a",
+)
+GREETINGS = (
+    "x", "x" * 128, "a  b", "!", "~", "=", "-", "-a", "--help", "stop", "STOP!", "STATS 1", "BACKUP", "backup /a",
+)
 REFUSED_FILES = (
     [*TO_RUN, "--sync"], [*TO_RUN, "--journal"], [*TO_RUN, "--journal", "--sync"], [*TO_RUN, "--ledger"],
     [*TO_RUN, "--ledger", "a", "--sync"],
@@ -628,6 +641,11 @@ REFUSED_FILES = (
         ["--ahead=60", "--sessions=1", "--close=19730"],
     )),
     *([*TO_STAY, *more] for more in (["--refused"], ["--refused", "-a"], ["--refused=a", "--refused", "a"])),
+    *([*TO_STAY, f"--greeting={text}"] for text in NO_GREETINGS), [*TO_STAY, "--greeting", "STOP"],
+    *([*TO_STAY, *more] for more in (["--greeting"], ["--greeting", "-a"], ["--greeting=a", "--greeting", "a"])),
+    [*TO_STAY, "--greeting", "a", "b"], [*TO_STAY, "--greeting", b"\xff"], [*TO_STAY, "--greetings=a"],
+    [*TO_SERVE, "--greeting=a"], [*TO_SERVE, "--journal", "a", "--ledger", "b", "--greeting", "c"],
+    [*TO_RUN, "--greeting=a"], ["audit", MISSING, LONDON, "--journal", "a", "--greeting=a"],
     [*TO_SERVE, "--refused=a"], [*TO_SERVE, "--journal", "a", "--ledger", "b", "--refused", "c"],
     [*TO_RUN, "--refused=a"],
     [*TO_STAY[:9], *TO_STAY[11:], "--ahead=60"], [*TO_SERVE, "--ahead=60"],
@@ -652,6 +670,8 @@ TAKEN_FILES = (
         ["--ahead", "60"], ["--ahead=0"], ["--early", "--ahead", "86400"], ["--ahead=+086400"],
     )),
     *([*TO_STAY, *more] for more in (["--refused", "a"], ["--refused=-a"], ["--ahead=0", "--refused="])),
+    *([*TO_STAY, f"--greeting={text}"] for text in GREETINGS), [*TO_STAY, "--greeting", "a b"],
+    ["serve", "--greeting", "-", *TO_STAY[1:], "--refused=a"],
     ["serve", "--ahead", "60", *TO_STAY[1:]],
     ["serve", "--control=1", "--ledger=b", MISSING, "--journal=a", "--early", LONDON, *FULL_STAY],
     ["serve", "--ledger=b", *OPTIONS[:4], MISSING, "--journal", "a", *OPTIONS[4:], LONDON],

@@ -12,7 +12,7 @@ use Rattle.pay_words.specs.Asked.{Given, with_value, values, help, refused, with
 use Rattle.pay_words.specs.Asked as words
 use Rattle.pay_words.specs.Options as say
 use Rattle.pay_words.specs.Options.{AreParts, IsOption, Part, Said, Setting, StandApart, all_of, all_said, flag_value, help_wanted, is_flag, not_taken, plain_words, reader_of, values_of, words_of_parts}
-use Rattle.pay_words.specs.Options.{port_option, lanes_option, shards_option, sessions_option, close_option, control_option, ahead_option, refused_option, journal_option, sync_option, ledger_option, early_option}
+use Rattle.pay_words.specs.Options.{port_option, lanes_option, shards_option, sessions_option, close_option, control_option, ahead_option, refused_option, greeting_option, journal_option, sync_option, ledger_option, early_option}
 use Rattle.pay_words.specs.Options.{lint_option, against_option, after_option, week_option}
 use Rattle.pay_words.specs.Audit.{AreAuditParts, Audit, audit_grammar}
 use Rattle.pay_words.specs.Check.{AreCheckParts, CheckTexts, HasAfterInRange, check_grammar, check_of_texts, has_against}
@@ -247,7 +247,7 @@ module _ (rest : List Text) (parts : List Part) (had : List Row) (s : Says serve
 
   serve_made : (vs ps ls ns : List Text) → plain_words parts ≡ vs → values_of port_option parts ≡ ps → values_of lanes_option parts ≡ ls → values_of shards_option parts ≡ ns
       → AreWordsOf (serve_of vs ps ls ns (values_of sessions_option parts) (values_of close_option parts) (values_of control_option parts) (values_of ahead_option parts) (values_of refused_option parts)
-      (values_of journal_option parts) (values_of ledger_option parts) (values_of early_option parts)) (codes "serve" ∷ rest)
+      (values_of greeting_option parts) (values_of journal_option parts) (values_of ledger_option parts) (values_of early_option parts)) (codes "serve" ∷ rest)
   serve_made [] ps ls ns h p l n = tt
   serve_made (a ∷ []) ps ls ns h p l n = tt
   serve_made (a ∷ b ∷ c ∷ more) ps ls ns h p l n = tt
@@ -269,6 +269,7 @@ module _ (rest : List Text) (parts : List Part) (had : List Row) (s : Says serve
       control = first_given (values_of control_option parts);
       ahead = first_given (values_of ahead_option parts);
       refused = first_given (values_of refused_option parts);
+      greeting = first_given (values_of greeting_option parts);
       journal = first_given (values_of journal_option parts);
       ledger = first_given (values_of ledger_option parts);
       early = is_given (values_of early_option parts);
@@ -279,7 +280,14 @@ module _ (rest : List Text) (parts : List Part) (had : List Row) (s : Says serve
       s.1,
       h,
       (p, l, n),
-      (serve_listed sessions_option, serve_listed close_option, serve_listed control_option, serve_listed ahead_option, serve_listed refused_option),
+      (
+        serve_listed sessions_option,
+        serve_listed close_option,
+        serve_listed control_option,
+        serve_listed ahead_option,
+        serve_listed refused_option,
+        serve_listed greeting_option,
+      ),
       serve_listed journal_option,
       serve_listed ledger_option,
       under_flags had early_option refl (values_of early_option parts) (under early_option),
@@ -445,6 +453,7 @@ module _ (r : Run) (parts : List Part) (are : AreRunParts r parts) where
   run_once control_option = none_of_run control_option (λ e. cc)
   run_once ahead_option = none_of_run ahead_option (λ e. cc)
   run_once refused_option = none_of_run refused_option (λ e. cc)
+  run_once greeting_option = none_of_run greeting_option (λ e. cc)
   run_once journal_option = subst (Once journal_option) (sym are.2) (once_listed journal_option r.journal (λ v. refl))
   run_once sync_option = subst (Once sync_option) (sym are.3) (once_flags sync_option refl r.syncs)
   run_once ledger_option = subst (Once ledger_option) (sym are.4) (once_listed ledger_option r.ledger (λ v. refl))
@@ -487,6 +496,7 @@ module _ (t : CheckTexts) (parts : List Part) (are : AreCheckParts t parts) (fit
   check_once control_option = none_of_check control_option (λ e. cc)
   check_once ahead_option = none_of_check ahead_option (λ e. cc)
   check_once refused_option = none_of_check refused_option (λ e. cc)
+  check_once greeting_option = none_of_check greeting_option (λ e. cc)
   check_once journal_option = none_of_check journal_option (λ e. cc)
   check_once sync_option = none_of_check sync_option (λ e. cc)
   check_once ledger_option = none_of_check ledger_option (λ e. cc)
@@ -525,6 +535,7 @@ module _ (t : StatementTexts) (parts : List Part) (are : AreStatementParts t par
   statement_once control_option = none_of_statement control_option (λ e. cc)
   statement_once ahead_option = none_of_statement ahead_option (λ e. cc)
   statement_once refused_option = none_of_statement refused_option (λ e. cc)
+  statement_once greeting_option = none_of_statement greeting_option (λ e. cc)
   statement_once journal_option = subst (Once journal_option) (sym are.2) (once_listed journal_option t.journal (λ v. refl))
   statement_once sync_option = none_of_statement sync_option (λ e. cc)
   statement_once ledger_option = none_of_statement ledger_option (λ e. cc)
@@ -563,6 +574,7 @@ module _ (t : ExplainTexts) (parts : List Part) (are : AreExplainParts t parts) 
   explain_once control_option = none_of_explain control_option (λ e. cc)
   explain_once ahead_option = none_of_explain ahead_option (λ e. cc)
   explain_once refused_option = none_of_explain refused_option (λ e. cc)
+  explain_once greeting_option = none_of_explain greeting_option (λ e. cc)
   explain_once journal_option = subst (Once journal_option) (sym are.2) refl
   explain_once sync_option = none_of_explain sync_option (λ e. cc)
   explain_once ledger_option = none_of_explain ledger_option (λ e. cc)
@@ -610,6 +622,7 @@ module _ (t : ServeTexts) (parts : List Part) (are : ArePartsOf t parts) (fits :
   serve_once control_option = subst (Once control_option) (sym are.3.2) (once_number control_option t.control fits.5)
   serve_once ahead_option = subst (Once ahead_option) (sym are.3.3) (once_number ahead_option t.ahead fits.6)
   serve_once refused_option = subst (Once refused_option) (sym are.3.4) (once_listed refused_option t.refused (λ v. refl))
+  serve_once greeting_option = subst (Once greeting_option) (sym are.3.5) (once_listed greeting_option t.greeting (λ v. refl))
   serve_once journal_option = subst (Once journal_option) (sym are.4) (once_listed journal_option t.journal (λ v. refl))
   serve_once sync_option = none_of_serve sync_option (λ e. cc)
   serve_once lint_option = none_of_serve lint_option (λ e. cc)
@@ -638,6 +651,7 @@ module _ (t : ServeTexts) (parts : List Part) (are : ArePartsOf t parts) (fits :
     are.3.2,
     are.3.3,
     are.3.4,
+    are.3.5,
     are.4,
     are.5,
     are.6,
@@ -646,6 +660,7 @@ module _ (t : ServeTexts) (parts : List Part) (are : ArePartsOf t parts) (fits :
     first_listed t.control,
     first_listed t.ahead,
     first_listed t.refused,
+    first_listed t.greeting,
     first_listed t.journal,
     first_listed t.ledger,
     given_flags t.early,
@@ -669,6 +684,7 @@ module _ (a : Audit) (parts : List Part) (are : AreAuditParts a parts) where
   audit_once control_option = none_of_audit control_option (λ e. cc)
   audit_once ahead_option = none_of_audit ahead_option (λ e. cc)
   audit_once refused_option = none_of_audit refused_option (λ e. cc)
+  audit_once greeting_option = none_of_audit greeting_option (λ e. cc)
   audit_once journal_option = subst (Once journal_option) (sym are.2) refl
   audit_once sync_option = none_of_audit sync_option (λ e. cc)
   audit_once ledger_option = subst (Once ledger_option) (sym are.3) (once_listed ledger_option a.ledger (λ v. refl))

@@ -15,7 +15,7 @@ use Rattle.clap.specs.declared.builder.value_parser.ValueParser.{ValueParser}
 use Rattle.clap.specs.declared.builder.value_parser.ValueParser.TheVariants as vp
 use Rattle.clap.specs.declared.builder.value_parser.Reading.TheVariants as reading
 use Rattle.pay_words.specs.Options.{Grammar, Place, Setting, flag_value, is_flag, name_of, place_after, place_reader, reader_of, setting_named}
-use Rattle.pay_words.specs.Options.{port_option, lanes_option, shards_option, sessions_option, close_option, control_option, ahead_option, refused_option, journal_option, sync_option, ledger_option, early_option}
+use Rattle.pay_words.specs.Options.{port_option, lanes_option, shards_option, sessions_option, close_option, control_option, ahead_option, refused_option, greeting_option, journal_option, sync_option, ledger_option, early_option}
 use Rattle.pay_words.specs.Options.{lint_option, against_option, after_option, week_option}
 use Rattle.pay_words.specs.Options.{fares_place, zone_place, account_place, day_place, ledger_place}
 use Rattle.pay_words.proofs.OptionRows.{a_row, found, no_row, row_added, row_with}
@@ -75,6 +75,7 @@ parser_for close_option = vp.Unsigned 4 50_000
 parser_for control_option = vp.Unsigned 1 65_535
 parser_for ahead_option = vp.Unsigned 0 86_400
 parser_for refused_option = vp.String
+parser_for greeting_option = vp.String
 parser_for journal_option = vp.String
 parser_for sync_option = vp.Bool
 parser_for ledger_option = vp.String
@@ -98,6 +99,7 @@ is_needed close_option = false
 is_needed control_option = false
 is_needed ahead_option = false
 is_needed refused_option = false
+is_needed greeting_option = false
 is_needed journal_option = false
 is_needed sync_option = false
 is_needed ledger_option = false
@@ -132,6 +134,7 @@ option_reads close_option word value = refl
 option_reads control_option word value = refl
 option_reads ahead_option word value = refl
 option_reads refused_option word value = refl
+option_reads greeting_option word value = refl
 option_reads journal_option word value = refl
 option_reads sync_option word value = cc
 option_reads ledger_option word value = refl
@@ -150,6 +153,7 @@ option_reading needed close_option = refl
 option_reading needed control_option = refl
 option_reading needed ahead_option = refl
 option_reading needed refused_option = refl
+option_reading needed greeting_option = refl
 option_reading needed journal_option = refl
 option_reading needed sync_option = refl
 option_reading needed ledger_option = refl
@@ -170,6 +174,7 @@ same_name close_option = refl
 same_name control_option = refl
 same_name ahead_option = refl
 same_name refused_option = refl
+same_name greeting_option = refl
 same_name journal_option = refl
 same_name sync_option = refl
 same_name ledger_option = refl
@@ -189,6 +194,7 @@ same_setting close_option close_option = inl refl
 same_setting control_option control_option = inl refl
 same_setting ahead_option ahead_option = inl refl
 same_setting refused_option refused_option = inl refl
+same_setting greeting_option greeting_option = inl refl
 same_setting journal_option journal_option = inl refl
 same_setting sync_option sync_option = inl refl
 same_setting ledger_option ledger_option = inl refl
@@ -209,6 +215,7 @@ no_place close_option fares_place = (refl, refl)
 no_place control_option fares_place = (refl, refl)
 no_place ahead_option fares_place = (refl, refl)
 no_place refused_option fares_place = (refl, refl)
+no_place greeting_option fares_place = (refl, refl)
 no_place journal_option fares_place = (refl, refl)
 no_place sync_option fares_place = (refl, refl)
 no_place ledger_option fares_place = (refl, refl)
@@ -316,6 +323,7 @@ of_flag P sync early lint week close_option flag = cc
 of_flag P sync early lint week control_option flag = cc
 of_flag P sync early lint week ahead_option flag = cc
 of_flag P sync early lint week refused_option flag = cc
+of_flag P sync early lint week greeting_option flag = cc
 of_flag P sync early lint week journal_option flag = cc
 of_flag P sync early lint week sync_option flag = sync
 of_flag P sync early lint week ledger_option flag = cc
@@ -347,6 +355,7 @@ refuses_value close_option = refl
 refuses_value control_option = refl
 refuses_value ahead_option = refl
 refuses_value refused_option = refl
+refuses_value greeting_option = refl
 refuses_value journal_option = refl
 refuses_value sync_option = refl
 refuses_value ledger_option = refl

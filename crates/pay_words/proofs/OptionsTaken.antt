@@ -6,7 +6,7 @@ use Rattle.clap.specs.ValueTests.{is_unsigned_in}
 use Rattle.clap.specs.Walk.{Text}
 use Rattle.pay_words.specs.Asked.{HaveNoHyphens}
 use Rattle.pay_words.specs.Options.{AreParts, Grammar, IsOption, MayStandApart, Part, Place, Said, ProgramWord, Setting, StandApart, all_of, all_said, flag_value, is_flag, name_of, next_alone, next_joined, next_part, next_value, one_more_plain, one_more_value, place_after, place_reader, placed, plain_words, program_word, reader_of, said, value_for, values_of, words_of_parts}
-use Rattle.pay_words.specs.Options.{port_option, lanes_option, shards_option, sessions_option, close_option, control_option, ahead_option, refused_option, journal_option, sync_option, ledger_option, early_option}
+use Rattle.pay_words.specs.Options.{port_option, lanes_option, shards_option, sessions_option, close_option, control_option, ahead_option, refused_option, greeting_option, journal_option, sync_option, ledger_option, early_option}
 use Rattle.pay_words.specs.Options.{lint_option, against_option, after_option, week_option}
 use Rattle.pay_words.specs.OneWord as words
 use Rattle.pay_words.specs.Options as say
@@ -99,6 +99,7 @@ module _ (g : Grammar) where
   value_is_no_option control_option valued w fits may = number_is_no_option 1 65_535 w fits
   value_is_no_option ahead_option valued w fits may = number_is_no_option 0 86_400 w fits
   value_is_no_option refused_option valued w fits may = no_option w may
+  value_is_no_option greeting_option valued w fits may = no_option w may
   value_is_no_option journal_option valued w fits may = no_option w may
   value_is_no_option sync_option valued w fits may = cc
   value_is_no_option ledger_option valued w fits may = no_option w may
@@ -118,6 +119,7 @@ module _ (g : Grammar) where
   alone_word control_option named = rw named refl
   alone_word ahead_option named = rw named refl
   alone_word refused_option named = rw named refl
+  alone_word greeting_option named = rw named refl
   alone_word journal_option named = rw named refl
   alone_word sync_option named = rw named refl
   alone_word ledger_option named = rw named refl
@@ -136,6 +138,7 @@ module _ (g : Grammar) where
   joined_word control_option named v = rw named refl
   joined_word ahead_option named v = rw named refl
   joined_word refused_option named v = rw named refl
+  joined_word greeting_option named v = rw named refl
   joined_word journal_option named v = rw named refl
   joined_word sync_option named v = rw named refl
   joined_word ledger_option named v = rw named refl

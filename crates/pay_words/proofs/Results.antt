@@ -10,10 +10,12 @@ use Rattle.pay_words.specs.Options.{Part, StandApart, words_of_parts}
 use Rattle.pay_words.specs.Audit.{AreAuditParts, Audit}
 use Rattle.pay_words.specs.Check.{AreCheckParts, Check, CheckTexts, HasAfterInRange, check_of_texts, has_against}
 use Rattle.pay_words.specs.Explain.{AreExplainParts, Explain, ExplainTexts, HasAccountAndDayInRange, explain_of_texts}
+use Rattle.pay_words.specs.Greeting.{is_greeting}
 use Rattle.pay_words.specs.Run.{AreRunParts, Run, has_journal}
 use Rattle.pay_words.specs.Serve.{AreInRange, ArePartsOf, Serve, ServeTexts, is_whole, last_port, numbers_of}
 use Rattle.pay_words.specs.Statement.{AreStatementParts, HasNumbersInRange, Statement, StatementTexts, statement_of_texts}
 use Rattle.std.specs.List.{list_all}
+use Rattle.std.specs.Option.{option_map_or}
 use Rattle.clap.specs.Words.{HasMatchesOf, IsAmong, all_of, first_of, first_value, matched_of, raw_values, rows_of, subcommand_rows_of}
 use Rattle.clap.specs.declared.error.kind.ErrorKind.{ErrorKind}
 use Rattle.clap.specs.declared.parser.matches.ArgMatches.{ArgMatches}
@@ -226,9 +228,10 @@ serve_texts m f s same gives =
       one_text-rows f (codes "control") ∙ (ap (one_of (codes "control")) rows_are ∙ h.7),
       one_text-rows f (codes "ahead") ∙ (ap (one_of (codes "ahead")) rows_are ∙ h.8),
       first_value-rows f (codes "refused") ∙ (ap (first_of (codes "refused")) rows_are ∙ h.9),
-      first_value-rows f (codes "journal") ∙ (ap (first_of (codes "journal")) rows_are ∙ h.10),
-      first_value-rows f (codes "ledger") ∙ (ap (first_of (codes "ledger")) rows_are ∙ h.11),
-      one_text-rows f (codes "early") ∙ (ap (one_of (codes "early")) rows_are ∙ h.12),
+      first_value-rows f (codes "greeting") ∙ (ap (first_of (codes "greeting")) rows_are ∙ h.10),
+      first_value-rows f (codes "journal") ∙ (ap (first_of (codes "journal")) rows_are ∙ h.11),
+      first_value-rows f (codes "ledger") ∙ (ap (first_of (codes "ledger")) rows_are ∙ h.12),
+      one_text-rows f (codes "early") ∙ (ap (one_of (codes "early")) rows_are ∙ h.13),
     )
 
 -- the matches of `audit` have what it is asked for
@@ -381,6 +384,11 @@ room_left control port lanes is =
     let each = both (not (control == port)) (nat_le lanes 14) is in
     (λ same. true≢false (sym (eq-eqb control port same) ∙ not-true (control == port) each.0), leb-true lanes 14 each.1)
 
+-- a greeting that is given may be one
+greets : {S : Type 0} (text_of : S → Text) (greeting : Option S) → option_map_or is_greeting (option_map text_of greeting) true ≡ true → IfSome greeting (λ s. is_greeting (text_of s) ≡ true)
+greets text_of None is = tt
+greets text_of (Some s) is = is
+
 job_in_range : (ws : List Text) (job : Job) → asked ws ≡ job_asked job → IsJobInRange job
 job_in_range ws (RunJob w) e = subst IsAllowed e (asked_is_allowed (words_ask ws))
 job_in_range ws (CheckJob w) e =
@@ -414,9 +422,10 @@ job_in_range ws (StayJob w) e =
     let lanes = number_in_range 1 15 made.0.lanes w.lanes made.4.1 (ap (λ (s : Serve). s.lanes) made.5) in
     let shards = number_in_range 1 16 made.0.shards w.shards made.4.2 (ap (λ (s : Serve). s.shards) made.5) in
     let control = given_in_range 1 65_535 made.0.control (Some w.control) made.4.5 (ap (λ (s : Serve). s.control) made.5) in
-    let room = room_left w.control w.port w.lanes (both _ _ (subst IsAllowed e (asked_is_allowed (words_ask ws)))).0 in
+    let stays = both _ _ (both _ _ (subst IsAllowed e (asked_is_allowed (words_ask ws)))).0 in
+    let room = room_left w.control w.port w.lanes stays.0 in
     let ahead = given_in_range 0 86_400 made.0.ahead w.ahead made.4.6 (ap (λ (s : Serve). s.ahead) made.5) in
-    (port.0, control.0, room.0, lanes.0, room.1, shards.0, shards.1, at_most 0 86_400 w.ahead ahead)
+    (port.0, control.0, room.0, lanes.0, room.1, shards.0, shards.1, at_most 0 86_400 w.ahead ahead, greets (λ s. s.now) w.greeting stays.1)
 job_in_range ws (AuditJob w) e = tt
 job_in_range ws (Rebuild w) e = tt
 

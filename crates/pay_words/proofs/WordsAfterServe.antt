@@ -10,7 +10,7 @@ use Rattle.clap.specs.Faults.{check_fault}
 use Rattle.pay_words.specs.Asked.{serve_asked, serve_of}
 use Rattle.pay_words.specs.CommandLine.{flag_text}
 use Rattle.pay_words.specs.Options.{Part, Place, Said, Setting, all_of, all_said, help_wanted, name_of, not_taken, place_after, plain_words, reader_of, values_of}
-use Rattle.pay_words.specs.Options.{fares_place, zone_place, port_option, lanes_option, shards_option, sessions_option, close_option, control_option, ahead_option, refused_option, journal_option, ledger_option, early_option}
+use Rattle.pay_words.specs.Options.{fares_place, zone_place, port_option, lanes_option, shards_option, sessions_option, close_option, control_option, ahead_option, refused_option, greeting_option, journal_option, ledger_option, early_option}
 use Rattle.pay_words.specs.Run.{first_given, is_given}
 use Rattle.pay_words.specs.Serve.{serve_grammar}
 use Rattle.pay_words.proofs.OptionEnds.{IsFinal, flag_final, places_final, under_final, under_first, under_one}
@@ -23,7 +23,7 @@ use Rattle.pay_words.proofs.WordsAfterOptions.{AreApart, Holds, Places, Under, e
 use Rattle.pay_words.proofs.WordsOfProgram.{Comes, program_shape}
 
 abbrev pub serve_rules : List Rule
-serve_rules = rule_at fares_place ∷ rule_at zone_place ∷ rules_for is_needed (port_option ∷ lanes_option ∷ shards_option ∷ sessions_option ∷ close_option ∷ control_option ∷ ahead_option ∷ refused_option ∷ journal_option ∷ ledger_option ∷ early_option ∷ [])
+serve_rules = rule_at fares_place ∷ rule_at zone_place ∷ rules_for is_needed (port_option ∷ lanes_option ∷ shards_option ∷ sessions_option ∷ close_option ∷ control_option ∷ ahead_option ∷ refused_option ∷ greeting_option ∷ journal_option ∷ ledger_option ∷ early_option ∷ [])
 
 abbrev pub serve_shape : Shape
 serve_shape = program_shape (codes "serve") serve_rules
@@ -48,11 +48,11 @@ serve_built = record {
   needs = is_needed;
   by_long = λ name. rule_by_long is_needed serve_grammar.options name;
   by_short = λ x. refl;
-  by_name = (refl, (refl, (refl, (refl, (refl, (refl, (refl, (refl, (refl, (refl, (refl, tt)))))))))));
+  by_name = (refl, (refl, (refl, (refl, (refl, (refl, (refl, (refl, (refl, (refl, (refl, (refl, tt))))))))))));
   by_place = (refl, (refl, tt));
   by_index = serve_index;
   next = serve_next;
-  defaults = λ rows. no_default_faults serve_rules rows (refl, (refl, (refl, (refl, (refl, (refl, (refl, (refl, (refl, (refl, (refl, (refl, (refl, (refl, tt))))))))))))));
+  defaults = λ rows. no_default_faults serve_rules rows (refl, (refl, (refl, (refl, (refl, (refl, (refl, (refl, (refl, (refl, (refl, (refl, (refl, (refl, (refl, tt)))))))))))))));
 }
 
 -- what an option was given passed its reader
@@ -62,19 +62,19 @@ under_reads rows k (v ∷ []) h = h.1
 under_reads rows k (v ∷ w ∷ more) h = absurd h
 
 -- what is asked for by all that was given, and what `clap` says of it
-finish : (vs ps ls ns ks ds cs hs us js gs es : List Text) (rows : List Row) → Places serve_grammar.places vs rows → Under rows port_option ps → Under rows lanes_option ls
+finish : (vs ps ls ns ks ds cs hs us ts js gs es : List Text) (rows : List Row) → Places serve_grammar.places vs rows → Under rows port_option ps → Under rows lanes_option ls
     → Under rows shards_option ns → Under rows sessions_option ks → Under rows close_option ds → Under rows control_option cs → Under rows ahead_option hs
-    → Under rows refused_option us → Under rows journal_option js → Under rows ledger_option gs → one_of (codes "early") rows ≡ Some (flag_text (is_given es)) → Comes (serve_of vs ps ls ns ks ds cs hs us js gs es) (check_fault serve_shape rows false) (Some (codes "serve", rows))
-finish [] ps ls ns ks ds cs hs us js gs es rows h p l n k d c a u j g e = rw h.0 refl
-finish (f ∷ []) ps ls ns ks ds cs hs us js gs es rows h p l n k d c a u j g e = rw (h.0, h.2.0) refl
-finish (f ∷ b ∷ z ∷ more) ps ls ns ks ds cs hs us js gs es rows h p l n k d c a u j g e = absurd h.2.2
-finish (f ∷ b ∷ []) [] ls ns ks ds cs hs us js gs es rows h p l n k d c a u j g e = rw (h.0, h.2.0, p) refl
-finish (f ∷ b ∷ []) (pw ∷ v ∷ more) ls ns ks ds cs hs us js gs es rows h p l n k d c a u j g e = absurd p
-finish (f ∷ b ∷ []) (pw ∷ []) [] ns ks ds cs hs us js gs es rows h p l n k d c a u j g e = rw (h.0, h.2.0, p.0, l) refl
-finish (f ∷ b ∷ []) (pw ∷ []) (lw ∷ v ∷ more) ns ks ds cs hs us js gs es rows h p l n k d c a u j g e = absurd l
-finish (f ∷ b ∷ []) (pw ∷ []) (lw ∷ []) [] ks ds cs hs us js gs es rows h p l n k d c a u j g e = rw (h.0, h.2.0, p.0, l.0, n) refl
-finish (f ∷ b ∷ []) (pw ∷ []) (lw ∷ []) (nw ∷ v ∷ more) ks ds cs hs us js gs es rows h p l n k d c a u j g e = absurd n
-finish (f ∷ b ∷ []) (pw ∷ []) (lw ∷ []) (nw ∷ []) ks ds cs hs us js gs es rows h p l n k d c a u j g e = (
+    → Under rows refused_option us → Under rows greeting_option ts → Under rows journal_option js → Under rows ledger_option gs → one_of (codes "early") rows ≡ Some (flag_text (is_given es)) → Comes (serve_of vs ps ls ns ks ds cs hs us ts js gs es) (check_fault serve_shape rows false) (Some (codes "serve", rows))
+finish [] ps ls ns ks ds cs hs us ts js gs es rows h p l n k d c a u t j g e = rw h.0 refl
+finish (f ∷ []) ps ls ns ks ds cs hs us ts js gs es rows h p l n k d c a u t j g e = rw (h.0, h.2.0) refl
+finish (f ∷ b ∷ z ∷ more) ps ls ns ks ds cs hs us ts js gs es rows h p l n k d c a u t j g e = absurd h.2.2
+finish (f ∷ b ∷ []) [] ls ns ks ds cs hs us ts js gs es rows h p l n k d c a u t j g e = rw (h.0, h.2.0, p) refl
+finish (f ∷ b ∷ []) (pw ∷ v ∷ more) ls ns ks ds cs hs us ts js gs es rows h p l n k d c a u t j g e = absurd p
+finish (f ∷ b ∷ []) (pw ∷ []) [] ns ks ds cs hs us ts js gs es rows h p l n k d c a u t j g e = rw (h.0, h.2.0, p.0, l) refl
+finish (f ∷ b ∷ []) (pw ∷ []) (lw ∷ v ∷ more) ns ks ds cs hs us ts js gs es rows h p l n k d c a u t j g e = absurd l
+finish (f ∷ b ∷ []) (pw ∷ []) (lw ∷ []) [] ks ds cs hs us ts js gs es rows h p l n k d c a u t j g e = rw (h.0, h.2.0, p.0, l.0, n) refl
+finish (f ∷ b ∷ []) (pw ∷ []) (lw ∷ []) (nw ∷ v ∷ more) ks ds cs hs us ts js gs es rows h p l n k d c a u t j g e = absurd n
+finish (f ∷ b ∷ []) (pw ∷ []) (lw ∷ []) (nw ∷ []) ks ds cs hs us ts js gs es rows h p l n k d c a u t j g e = (
   rw (h.0, h.2.0, p.0, l.0, n.0) refl,
   (
     record {
@@ -88,6 +88,7 @@ finish (f ∷ b ∷ []) (pw ∷ []) (lw ∷ []) (nw ∷ []) ks ds cs hs us js gs
       control = first_given cs;
       ahead = first_given hs;
       refused = first_given us;
+      greeting = first_given ts;
       journal = first_given js;
       ledger = first_given gs;
       early = is_given es;
@@ -105,6 +106,7 @@ finish (f ∷ b ∷ []) (pw ∷ []) (lw ∷ []) (nw ∷ []) ks ds cs hs us js gs
       under_one rows control_option cs c,
       under_one rows ahead_option hs a,
       under_first rows refused_option us u,
+      under_first rows greeting_option ts t,
       under_first rows journal_option js j,
       under_first rows ledger_option gs g,
       e,
@@ -126,9 +128,9 @@ serve_ended : (rows : List Row) → fold with_default rows serve_rules ≡ with_
 serve_ended rows =
     ap (λ (r : List Row). fold with_default r (rules_for is_needed (early_option ∷ [])))
     (no_defaults (rule_at fares_place ∷ rule_at zone_place ∷ setting_rule true port_option ∷ setting_rule true lanes_option ∷ setting_rule true shards_option ∷ setting_rule false sessions_option
-    ∷ setting_rule false close_option ∷ setting_rule false control_option ∷ setting_rule false ahead_option ∷ setting_rule false refused_option ∷ setting_rule false journal_option
+    ∷ setting_rule false close_option ∷ setting_rule false control_option ∷ setting_rule false ahead_option ∷ setting_rule false refused_option ∷ setting_rule false greeting_option ∷ setting_rule false journal_option
     ∷ setting_rule false ledger_option ∷ []) rows
-    (refl, (refl, (refl, (refl, (refl, (refl, (refl, (refl, (refl, (refl, (refl, (refl, tt)))))))))))))
+    (refl, (refl, (refl, (refl, (refl, (refl, (refl, (refl, (refl, (refl, (refl, (refl, (refl, tt))))))))))))))
     ∙ no_defaults (rules_for is_needed []) (with_default rows (setting_rule false early_option)) (refl, tt)
 
 -- the rows with what the flag comes to
@@ -144,10 +146,10 @@ module _ (parts : List Part) (had : List Row) (h : Holds serve_grammar parts (pl
 
   finished_serve : Comes (serve_asked (all_of parts)) (check_fault serve_shape all_rows false) (Some (codes "serve", all_rows))
   finished_serve = finish (plain_words parts) (values_of port_option parts) (values_of lanes_option parts) (values_of shards_option parts) (values_of sessions_option parts)
-      (values_of close_option parts) (values_of control_option parts) (values_of ahead_option parts) (values_of refused_option parts) (values_of journal_option parts) (values_of ledger_option parts) (values_of early_option parts) all_rows
+      (values_of close_option parts) (values_of control_option parts) (values_of ahead_option parts) (values_of refused_option parts) (values_of greeting_option parts) (values_of journal_option parts) (values_of ledger_option parts) (values_of early_option parts) all_rows
       (places_final early_option had all_rows (values_of early_option parts) early_final serve_grammar.places (plain_words parts) h.1)
       (serve_under port_option refl) (serve_under lanes_option refl) (serve_under shards_option refl) (serve_under sessions_option refl) (serve_under close_option refl)
-      (serve_under control_option refl) (serve_under ahead_option refl) (serve_under refused_option refl) (serve_under journal_option refl) (serve_under ledger_option refl) early_final.1
+      (serve_under control_option refl) (serve_under ahead_option refl) (serve_under refused_option refl) (serve_under greeting_option refl) (serve_under journal_option refl) (serve_under ledger_option refl) early_final.1
 
 -- what the words of `serve` come to
 pub serve_ends : (rest : List Text) → Comes (serve_asked (all_said serve_grammar rest)) (Level serve_shape [] (stand [] None idle 1 false) rest false [])

@@ -21,11 +21,12 @@ pub use Rattle.pay_words.specs.OneWord.{Text, Word, value, dashes, call_for_help
 pub use Rattle.pay_words.specs.OneWord.{Reader, any_text, is_account, is_day, number_of}
 pub use Rattle.pay_words.specs.Options.{HasNoHyphen}
 use Rattle.pay_words.specs.Options.{Part, Said, StandApart, all_of, all_said, help_wanted, not_taken, plain, apart, joined, plain_words, values_of, words_of_parts}
-use Rattle.pay_words.specs.Options.{port_option, lanes_option, shards_option, sessions_option, close_option, control_option, ahead_option, refused_option, journal_option, sync_option, ledger_option, early_option}
+use Rattle.pay_words.specs.Options.{port_option, lanes_option, shards_option, sessions_option, close_option, control_option, ahead_option, refused_option, greeting_option, journal_option, sync_option, ledger_option, early_option}
 use Rattle.pay_words.specs.Options.{lint_option, against_option, after_option, week_option}
 use Rattle.pay_words.specs.Audit.{AreAuditParts, Audit, audit_grammar}
 use Rattle.pay_words.specs.Check.{AreCheckParts, Check, CheckTexts, HasAfterInRange, check_grammar, check_of_texts, has_against}
 use Rattle.pay_words.specs.Explain.{AreExplainParts, Explain, ExplainTexts, HasAccountAndDayInRange, explain_grammar, explain_of_texts}
+use Rattle.pay_words.specs.Greeting.{is_greeting}
 use Rattle.pay_words.specs.Rebuild.{rebuild_grammar}
 use Rattle.pay_words.specs.Run.{AreRunParts, Run, first_given, has_journal, is_given, run_grammar}
 use Rattle.pay_words.specs.Serve.{AreInRange, ArePartsOf, Serve, ServeTexts, is_whole, last_port, numbers_of, serve_grammar}
@@ -163,8 +164,8 @@ replay_asked help = help_asked
 replay_asked _ = usage
 
 -- two values, one value for each option that is needed, and what each other was given
-abbrev pub serve_of : List Text → List Text → List Text → List Text → List Text → List Text → List Text → List Text → List Text → List Text → List Text → List Text → Asked
-serve_of (fares ∷ zone ∷ []) (p ∷ []) (l ∷ []) (n ∷ []) k d c a u j g e = serve (numbers_of (record {
+abbrev pub serve_of : List Text → List Text → List Text → List Text → List Text → List Text → List Text → List Text → List Text → List Text → List Text → List Text → List Text → Asked
+serve_of (fares ∷ zone ∷ []) (p ∷ []) (l ∷ []) (n ∷ []) k d c a u t j g e = serve (numbers_of (record {
   fares = fares;
   zone = zone;
   port = p;
@@ -175,18 +176,19 @@ serve_of (fares ∷ zone ∷ []) (p ∷ []) (l ∷ []) (n ∷ []) k d c a u j g 
   control = first_given c;
   ahead = first_given a;
   refused = first_given u;
+  greeting = first_given t;
   journal = first_given j;
   ledger = first_given g;
   early = is_given e;
 }))
-serve_of _ _ _ _ _ _ _ _ _ _ _ _ = usage
+serve_of _ _ _ _ _ _ _ _ _ _ _ _ _ = usage
 
 -- `serve FARES ZONE` and its options
 abbrev pub serve_asked : Said → Asked
 serve_asked (all_of parts) = serve_of (plain_words parts) (values_of port_option parts) (values_of lanes_option parts)
     (values_of shards_option parts) (values_of sessions_option parts) (values_of close_option parts) (values_of control_option parts)
-    (values_of ahead_option parts) (values_of refused_option parts) (values_of journal_option parts) (values_of ledger_option parts)
-    (values_of early_option parts)
+    (values_of ahead_option parts) (values_of refused_option parts) (values_of greeting_option parts) (values_of journal_option parts)
+    (values_of ledger_option parts) (values_of early_option parts)
 serve_asked help_wanted = help_asked
 serve_asked not_taken = usage
 
@@ -304,6 +306,7 @@ served_job w = record {
   control = None;
   ahead = None;
   refused = None;
+  greeting = None;
   journal = option_map (λ s. s.now) w.journal;
   ledger = option_map (λ s. s.now) w.ledger;
   early = w.early;
@@ -321,6 +324,7 @@ staying_job w = record {
   control = Some w.control;
   ahead = w.ahead;
   refused = option_map (λ s. s.now) w.refused;
+  greeting = option_map (λ s. s.now) w.greeting;
   journal = Some w.journal.now;
   ledger = Some w.ledger.now;
   early = w.early;
@@ -339,6 +343,7 @@ service_values w = record {
   control = w.control;
   ahead = w.ahead;
   refused = option_map (λ s. s.now) w.refused;
+  greeting = option_map (λ s. s.now) w.greeting;
   journal = option_map (λ s. s.now) w.journal;
   ledger = option_map (λ s. s.now) w.ledger;
   early = w.early;
@@ -404,7 +409,8 @@ AreJobWords (AuditJob w) words = AreAuditWords (audit_job w) words
 AreJobWords (Rebuild w) words = words ≡ codes "rebuild" ∷ w.fares.now ∷ w.ledger.now ∷ []
 
 -- the numbers of a job are in their ranges, what is synced is a journal, days up to one are compared with another
--- fare file, there is a journal to be replayed, and the staff of a service that stays have a port of their own
+-- fare file, there is a journal to be replayed, the staff of a service that stays have a port of their own, and its
+-- greeting is one, where it has any
 abbrev pub IsJobInRange : Job → Type 0
 IsJobInRange (RunJob w) = has_journal (run_job w) ≡ true
 IsJobInRange (CheckJob w) = (has_against (check_job w) ≡ true) × IfSome w.after (λ day. (FIRST_DAY ≤ day) × (day ≤ LAST_DAY))
@@ -416,6 +422,7 @@ IsJobInRange (ServeJob w) = (1 ≤ w.port) × (1 ≤ w.lanes) × (w.lanes ≤ MO
     × (FIRST_DAY ≤ w.close) × (w.close ≤ LAST_DAY)
 IsJobInRange (StayJob w) = (1 ≤ w.port) × (1 ≤ w.control) × (w.control ≢ w.port) × (1 ≤ w.lanes) × (w.lanes ≤ MOST_STAYING_LANES)
     × (1 ≤ w.shards) × (w.shards ≤ MOST_SHARDS) × IfSome w.ahead (λ s. s ≤ MOST_AHEAD)
+    × IfSome w.greeting (λ text. is_greeting text.now ≡ true)
 IsJobInRange (AuditJob w) = ⊤
 IsJobInRange (Rebuild w) = ⊤
 
@@ -836,6 +843,7 @@ example = record {
   control = None;
   ahead = None;
   refused = None;
+  greeting = None;
   journal = None;
   ledger = None;
   early = false;
@@ -1068,6 +1076,34 @@ refused_of_an_end_row = refl
 refused_of_run_row : row (codes "run" ∷ codes "a" ∷ codes "b" ∷ codes "--refused=no" ∷ []) ≡ usage
 unfolding chars
 refused_of_run_row = refl
+
+-- a greeting may have spaces, where it is one word of the process, and is given once
+stay_greeting_row : row (serve_words (codes "--control=9100" ∷ codes "--greeting" ∷ codes "hi there" ∷ files_words))
+    ≡ serve (record staying_example { greeting = Some (codes "hi there") })
+unfolding chars is_greeting
+stay_greeting_row = refl
+
+stay_greeting_joined_row : row (serve_words (codes "--greeting=-=" ∷ codes "--control=9100" ∷ files_words)) ≡ serve (record staying_example { greeting = Some (codes "-=") })
+unfolding chars is_greeting
+stay_greeting_joined_row = refl
+
+stay_greeting_twice_row : row (serve_words (codes "--control=9100" ∷ codes "--greeting=a" ∷ codes "--greeting=a" ∷ files_words)) ≡ usage
+unfolding chars
+stay_greeting_twice_row = refl
+
+-- none is empty, or a word of staff
+stay_no_greeting_row : row (serve_words (codes "--control=9100" ∷ codes "--greeting=" ∷ files_words)) ≡ usage
+unfolding chars is_greeting
+stay_no_greeting_row = refl
+
+stay_greeting_stop_row : row (serve_words (codes "--control=9100" ∷ codes "--greeting=STOP" ∷ files_words)) ≡ usage
+unfolding chars is_greeting
+stay_greeting_stop_row = refl
+
+-- a service that ends has none, whatever it is
+greeting_of_an_end_row : row (serve_words (codes "--sessions=1" ∷ codes "--close=19730" ∷ codes "--greeting=hi" ∷ [])) ≡ usage
+unfolding chars
+greeting_of_an_end_row = refl
 
 -- no other program has one
 ahead_of_run_row : row (codes "run" ∷ codes "a" ∷ codes "b" ∷ codes "--ahead=60" ∷ []) ≡ usage

@@ -100,12 +100,14 @@ with_numbers app = with_rule (with_rule (with_rule app
 
 -- and those of one form alone
 abbrev pub with_end : App → App
-with_end app = with_rule (with_rule (with_rule (with_rule (with_rule app
+with_end app = with_rule (with_rule (with_rule (with_rule (with_rule (with_rule app
     (optional_number (codes "sessions") 1 MOST_SESSIONS)) (optional_number (codes "close") FIRST_DAY LAST_DAY))
-    (optional_number (codes "control") 1 MOST_PORT)) (optional_number (codes "ahead") 0 MOST_AHEAD)) (text_option (codes "refused"))
+    (optional_number (codes "control") 1 MOST_PORT)) (optional_number (codes "ahead") 0 MOST_AHEAD)) (text_option (codes "refused")))
+    (text_option (codes "greeting"))
 
 -- `serve FARES ZONE --port P --lanes L --shards N --sessions K --close DAY [--journal FOLDER] [--ledger FILE] [--early]`, and
--- `serve FARES ZONE --port P --lanes L --shards N --control C --journal FOLDER --ledger FILE [--ahead S] [--refused FILE] [--early]`
+-- `serve FARES ZONE --port P --lanes L --shards N --control C --journal FOLDER --ledger FILE [--ahead S] [--refused FILE] [--greeting TEXT]
+-- [--early]`
 abbrev pub serve_app : App
 serve_app = with_ledger (with_rule (with_end (with_numbers (with_fares_and_zone (new_app (codes "serve"))))) (text_option (codes "journal")))
 
@@ -219,8 +221,8 @@ HaveServeTexts rows t = (first_of (codes "FARES") rows ≡ Some t.fares) × (fir
     × (one_of (codes "shards") rows ≡ Some t.shards) × (one_of (codes "sessions") rows ≡ t.sessions)
     × (one_of (codes "close") rows ≡ t.close) × (one_of (codes "control") rows ≡ t.control)
     × (one_of (codes "ahead") rows ≡ t.ahead) × (first_of (codes "refused") rows ≡ t.refused)
-    × (first_of (codes "journal") rows ≡ t.journal) × (first_of (codes "ledger") rows ≡ t.ledger)
-    × (one_of (codes "early") rows ≡ Some (flag_text t.early))
+    × (first_of (codes "greeting") rows ≡ t.greeting) × (first_of (codes "journal") rows ≡ t.journal)
+    × (first_of (codes "ledger") rows ≡ t.ledger) × (one_of (codes "early") rows ≡ Some (flag_text t.early))
 
 -- the matches are those of `serve` with these values, and words in their ranges for the numbers
 abbrev pub GivesServe : ArgMatches → Serve → Type 0
@@ -234,8 +236,8 @@ HasServeTexts f t = (first_value f (codes "FARES") ≡ Some t.fares) × (first_v
     × (one_text f (codes "shards") ≡ Some t.shards) × (one_text f (codes "sessions") ≡ t.sessions)
     × (one_text f (codes "close") ≡ t.close) × (one_text f (codes "control") ≡ t.control)
     × (one_text f (codes "ahead") ≡ t.ahead) × (first_value f (codes "refused") ≡ t.refused)
-    × (first_value f (codes "journal") ≡ t.journal) × (first_value f (codes "ledger") ≡ t.ledger)
-    × (one_text f (codes "early") ≡ Some (flag_text t.early))
+    × (first_value f (codes "greeting") ≡ t.greeting) × (first_value f (codes "journal") ≡ t.journal)
+    × (first_value f (codes "ledger") ≡ t.ledger) × (one_text f (codes "early") ≡ Some (flag_text t.early))
 
 -- these rows have what `audit` is asked for
 abbrev pub HaveAudit : List Row → Audit → Type 0

@@ -3,6 +3,7 @@ pub mod Asked
 pub mod Audit
 pub mod Check
 pub mod Explain
+pub mod Greeting
 pub mod OneWord
 pub mod Options
 pub mod Rebuild

@@ -33,6 +33,7 @@ pub data Setting : Type 0 where
   control_option : Setting
   ahead_option : Setting
   refused_option : Setting
+  greeting_option : Setting
   journal_option : Setting
   sync_option : Setting
   ledger_option : Setting
@@ -51,6 +52,7 @@ name_of close_option = codes "close"
 name_of control_option = codes "control"
 name_of ahead_option = codes "ahead"
 name_of refused_option = codes "refused"
+name_of greeting_option = codes "greeting"
 name_of journal_option = codes "journal"
 name_of sync_option = codes "sync"
 name_of ledger_option = codes "ledger"
@@ -69,6 +71,7 @@ is_flag close_option = false
 is_flag control_option = false
 is_flag ahead_option = false
 is_flag refused_option = false
+is_flag greeting_option = false
 is_flag journal_option = false
 is_flag sync_option = true
 is_flag ledger_option = false
@@ -95,6 +98,7 @@ reader_of close_option = is_day
 reader_of control_option = is_port
 reader_of ahead_option = is_ahead
 reader_of refused_option = any_text
+reader_of greeting_option = any_text
 reader_of journal_option = any_text
 reader_of sync_option = is_flag_value
 reader_of ledger_option = any_text
@@ -277,6 +281,7 @@ HasNoHyphen word = slice_index word 0 ≢ 45
 -- the value of an option may be a word of its own: a number does not begin with a hyphen
 abbrev pub MayStandApart : Setting → Text → Type 0
 MayStandApart refused_option word = HasNoHyphen word
+MayStandApart greeting_option word = HasNoHyphen word
 MayStandApart journal_option word = HasNoHyphen word
 MayStandApart ledger_option word = HasNoHyphen word
 MayStandApart against_option word = HasNoHyphen word

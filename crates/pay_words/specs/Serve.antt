@@ -1,9 +1,11 @@
 -- What the words of `serve` say.
 use Rattle.std.specs.Prelude.{◌≡◌, ◌+◌, ◌-◌, ◌==◌, ◌&&◌, ◌||◌, ℕ, List, [], ◌∷◌, Bool, true, not, Option, Some, None, IfSome, is_some, option_map, nat_le}
+use Rattle.std.specs.Option.{option_map_or}
 use Rattle.pay_words.specs.declared.limits.TheConstants.{MOST_PORT, MOST_STAYING_LANES}
+use Rattle.pay_words.specs.Greeting.{is_greeting}
 use Rattle.pay_words.specs.OneWord.{Text, is_ahead, is_day, is_lanes, is_port, is_sessions, is_shards, number_of}
 use Rattle.pay_words.specs.Options.{AreParts, Grammar, Part, plain_words, values_of, fares_place, zone_place}
-use Rattle.pay_words.specs.Options.{port_option, lanes_option, shards_option, sessions_option, close_option, control_option, ahead_option, refused_option, journal_option, ledger_option, early_option}
+use Rattle.pay_words.specs.Options.{port_option, lanes_option, shards_option, sessions_option, close_option, control_option, ahead_option, refused_option, greeting_option, journal_option, ledger_option, early_option}
 use Rattle.pay_words.specs.Run.{flags, listed}
 
 -- what `serve` is asked for: a service that ends after so many connections, or one that stays
@@ -18,6 +20,7 @@ pub record Serve : Type 0 where
   pub control : Option ℕ
   pub ahead : Option ℕ
   pub refused : Option Text
+  pub greeting : Option Text
   pub journal : Option Text
   pub ledger : Option Text
   pub early : Bool
@@ -34,6 +37,7 @@ pub record ServeTexts : Type 0 where
   pub control : Option Text
   pub ahead : Option Text
   pub refused : Option Text
+  pub greeting : Option Text
   pub journal : Option Text
   pub ledger : Option Text
   pub early : Bool
@@ -41,7 +45,7 @@ pub record ServeTexts : Type 0 where
 abbrev pub serve_grammar : Grammar
 serve_grammar = record {
   places = fares_place ∷ zone_place ∷ [];
-  options = port_option ∷ lanes_option ∷ shards_option ∷ sessions_option ∷ close_option ∷ control_option ∷ ahead_option ∷ refused_option ∷ journal_option ∷ ledger_option ∷ early_option ∷ [];
+  options = port_option ∷ lanes_option ∷ shards_option ∷ sessions_option ∷ close_option ∷ control_option ∷ ahead_option ∷ refused_option ∷ greeting_option ∷ journal_option ∷ ledger_option ∷ early_option ∷ [];
 }
 
 abbrev pub numbers_of : ServeTexts → Serve
@@ -56,6 +60,7 @@ numbers_of t = record {
   control = option_map number_of t.control;
   ahead = option_map number_of t.ahead;
   refused = t.refused;
+  greeting = t.greeting;
   journal = t.journal;
   ledger = t.ledger;
   early = t.early;
@@ -76,7 +81,7 @@ HaveNeeded t parts = (values_of port_option parts ≡ t.port ∷ []) × (values_
 abbrev pub HaveEnd : ServeTexts → List Part → Type 0
 HaveEnd t parts = (values_of sessions_option parts ≡ listed t.sessions) × (values_of close_option parts ≡ listed t.close)
     × (values_of control_option parts ≡ listed t.control) × (values_of ahead_option parts ≡ listed t.ahead)
-    × (values_of refused_option parts ≡ listed t.refused)
+    × (values_of refused_option parts ≡ listed t.refused) × (values_of greeting_option parts ≡ listed t.greeting)
 
 -- these parts are two values, in order, each option that both forms need once, and the others at most once
 abbrev pub ArePartsOf : ServeTexts → List Part → Type 0
@@ -91,9 +96,10 @@ last_port port lanes = port + lanes - 1
 abbrev pub has_ports : Serve → Bool
 has_ports s = nat_le (last_port s.port s.lanes) MOST_PORT
 
--- what a service that stays alone may have: a limit for taps ahead of the clock, and a file for refused lines
+-- what a service that stays alone may have: a limit for taps ahead of the clock, a file for refused lines, and a
+-- greeting
 abbrev pub has_more : Serve → Bool
-has_more s = is_some s.ahead || is_some s.refused
+has_more s = is_some s.ahead || (is_some s.refused || is_some s.greeting)
 
 -- a service that ends serves so many connections, closes a day, has nothing of that, and has a port for each lane
 abbrev pub may_end : Serve → Bool
@@ -107,9 +113,13 @@ has_no_end s = not (is_some s.sessions) && not (is_some s.close)
 abbrev pub leaves_room : ℕ → Serve → Bool
 leaves_room control s = not (control == s.port) && nat_le s.lanes MOST_STAYING_LANES
 
--- a service that stays has no end, leaves room for its staff, and has journals and a ledger in a file
+-- its greeting is one, where it has any
+abbrev pub may_greet : Serve → Bool
+may_greet s = option_map_or is_greeting s.greeting true
+
+-- a service that stays has no end, leaves room for its staff, may greet so, and has journals and a ledger in a file
 abbrev pub may_stay : ℕ → Serve → Bool
-may_stay control s = (has_no_end s && leaves_room control s) && (is_some s.journal && is_some s.ledger)
+may_stay control s = ((has_no_end s && leaves_room control s) && may_greet s) && (is_some s.journal && is_some s.ledger)
 
 abbrev pub is_whole_by : Option ℕ → Serve → Bool
 is_whole_by None s = may_end s

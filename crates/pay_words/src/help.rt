@@ -49,7 +49,7 @@ pub const ZONE: &str = "The time zone, a POSIX rule text such as GMT0BST,M3.5.0/
 /// What the word ACCOUNT is.
 pub const ACCOUNT: &str = "The account, a number from 1 to 4294967295";
 
-/// What the word DAY is.
+/// What the word DAY of `statement` is.
 pub const DAY: &str = "\
 A service day of the week, counted from 1970-01-01: a number from 4 to 50000";
 
@@ -157,6 +157,12 @@ pub const REFUSED: &str = "\
 For a service that stays: a file to which lines that are refused by 1, 15,
 20 to 23, 50 or 51 are added, so that they can be sent again";
 
+/// What the option `--greeting` is.
+pub const GREETING: &str = "\
+For a service that stays: the line with which each connection has to
+begin. 1 to 128 printable ASCII characters, no space at either end; not
+STOP, STATS or BACKUP PATH";
+
 /// What stands below the program's own help.
 pub const BELOW_PROGRAM: &str = "\
 Words of run (FARES ZONE), of check (FARES), of statement (FARES ZONE ACCOUNT DAY), of explain
@@ -181,8 +187,9 @@ Further options: --journal FILE and --ledger FILE of run, and --sync with --jour
 --against OLD of check, where OLD is another fare file, and --after DAY with --against; --journal
 FILE of statement, where it is only read; --week of explain, for the week through DAY; --journal
 FOLDER and --ledger FILE of serve; --ahead S of serve with --control, to refuse taps more than S
-seconds ahead of this machine's clock, and --refused FILE, to which refused lines are added; --early
-of run and of serve, to close a day that is not over yet; --ledger FILE of audit.
+seconds ahead of this machine's clock, --refused FILE, to which refused lines are added, and
+--greeting TEXT, with which connections begin; --early of run and of serve, to close a day that is
+not over yet; --ledger FILE of audit.
 
 Example: account 7 boards a bus in London on Monday 8 January 2024 at 07:00. The reply names the
 day, counted from 1970-01-01, its price and that of its week, in pence.

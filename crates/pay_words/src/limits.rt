@@ -25,6 +25,9 @@ pub const MOST_SHARDS: u64 = 16;
 /// The greatest number of connections that a lane serves. The least is 1.
 pub const MOST_SESSIONS: u64 = 1_000;
 
+/// The greatest length of a greeting, in bytes. The least is 1.
+pub const MOST_GREETING_BYTES: usize = 128;
+
 /// The greatest number of seconds that a tap may be ahead of this machine's clock, where there is such a limit. The
 /// least is 0.
 pub const MOST_AHEAD: u64 = 86_400;

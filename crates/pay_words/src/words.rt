@@ -1,6 +1,7 @@
 //! The words that the program is started with, and the job that they ask for.
 ghost use Rattle.std.specs.Prelude.{◌≡◌, ℕ, ◌<◌, ◌≤◌, Bool, true, false, codes, drop, List};
 ghost use Rattle.std.specs.Prelude.{IfOk, IfErr, IsSomeAnd, None, Some};
+ghost use Rattle.std.specs.List.{list_all};
 ghost use Rattle.clap.specs.Walk.{texts};
 ghost use Rattle.clap.specs.Words.{app_of, first_value, found_of, kind_of, one_text};
 ghost use Rattle.clap.specs.declared.builder.command.Command.TheViews.{out-Command as fields_of};
@@ -20,8 +21,9 @@ ghost use Rattle.pay_words.specs.OneWord.{is_port};
 ghost use Rattle.pay_words.specs.Audit.{Audit};
 ghost use Rattle.pay_words.specs.Check.{Check, CheckTexts, HasAfterInRange, check_of_texts, has_against};
 ghost use Rattle.pay_words.specs.Explain.{Explain, ExplainTexts, HasAccountAndDayInRange, explain_of_texts};
+ghost use Rattle.pay_words.specs.Greeting.{begins_or_ends_with_space, is_greeting, is_printable, is_word_of_staff};
 ghost use Rattle.pay_words.specs.Run.{Run, has_journal};
-ghost use Rattle.pay_words.specs.Serve.{AreInRange, Serve, ServeTexts, has_more, has_no_end, has_ports, leaves_room, numbers_of};
+ghost use Rattle.pay_words.specs.Serve.{AreInRange, Serve, ServeTexts, has_more, has_no_end, has_ports, leaves_room, may_greet, numbers_of};
 ghost use Rattle.pay_words.specs.Statement.{HasNumbersInRange, Statement, StatementTexts, statement_of_texts};
 ghost use Rattle.pay_words.specs.Asked.{check as check_asked, run as run_asked, without_dashes};
 ghost use Rattle.pay_words.specs.Asked.{audit as audit_asked, explain as explain_asked, rebuild as rebuild_asked};
@@ -30,8 +32,8 @@ ghost use Rattle.pay_words.specs.declared.words.WordsFault.TheVariants.{Memory};
 
 use crate::help;
 use crate::limits::{
-    FIRST_DAY, LAST_DAY, MOST_ACCOUNT, MOST_AHEAD, MOST_PORT, MOST_SERVED_LANES, MOST_SESSIONS,
-    MOST_SHARDS, MOST_STAYING_LANES,
+    FIRST_DAY, LAST_DAY, MOST_ACCOUNT, MOST_AHEAD, MOST_GREETING_BYTES, MOST_PORT,
+    MOST_SERVED_LANES, MOST_SESSIONS, MOST_SHARDS, MOST_STAYING_LANES,
 };
 use clap::builder::ValueParser;
 use clap::error::ErrorKind;
@@ -173,7 +175,7 @@ pub struct ServeWords<'a> {
 }
 
 /// The values of `serve FARES ZONE --port P --lanes L --shards N --control C --journal FOLDER --ledger FILE
-/// [--ahead S] [--refused FILE] [--early]`.
+/// [--ahead S] [--refused FILE] [--greeting TEXT] [--early]`.
 #[derive(Clone, Copy)]
 pub struct StayWords<'a> {
     /// The path of the fare file.
@@ -192,6 +194,9 @@ pub struct StayWords<'a> {
     pub ahead: Option<u32>,
     /// The path of the file that refused lines are kept in.
     pub refused: Option<&'a str>,
+    /// The line with which a connection has to begin: 1 to 128 printable ASCII characters, with no space at either end,
+    /// and not `STOP`, not `STATS` and none that begins with `BACKUP `. Without it, any.
+    pub greeting: Option<&'a str>,
     /// The path of the folder of the shards' journals.
     pub journal: &'a str,
     /// The path of the SQLite file that days are closed into.
@@ -213,6 +218,7 @@ struct Service<'a> {
     control: Option<u16>,
     ahead: Option<u32>,
     refused: Option<&'a str>,
+    greeting: Option<&'a str>,
     journal: Option<&'a str>,
     ledger: Option<&'a str>,
     early: bool,
@@ -271,12 +277,12 @@ impl From<AllocError> for WordsFault {
 /// version, one of the options of its program, and no other. The value of an option is the next word, or
 /// stands after an equals sign in the same; `--sync`, `--early`, `--lint` and `--week` have none. `--sync` is taken
 /// with `--journal` alone, and `--after` with `--against`. Each is given once, before, between or after the other
-/// values.
-/// `--` says that each word after it is a value. Numbers are decimal digits, which may have a plus and zeros
+/// values. `--` says that each word after it is a value. Numbers are decimal digits, which may have a plus and zeros
 /// before them; one outside its range is refused as `Usage`, and so are lanes with a port above 65,535. With
 /// `--control` a service stays. It then has no `--sessions` and no `--close`, at most 14 lanes, a journal and
-/// a ledger, and another port for its staff; without it, it has both `--sessions` and `--close`, and neither
-/// `--ahead` nor `--refused`.
+/// a ledger, another port for its staff, and perhaps a greeting: 1 to 128 printable ASCII characters with no space at
+/// either end, and no line by which staff ask something of it. Without `--control` it has both `--sessions` and
+/// `--close`, and no `--ahead`, `--refused` or `--greeting`.
 pub fn read_words<'a>(alloc: Global, words: &'a [&'a str]) -> Result<Job<'a>, WordsFault>
     ensures job { IfOk result (λ job. asked (texts words.entry.now) ≡ job_asked job) }
     ensures refused { IfErr result (IsFaultOf (asked (texts words.entry.now))) }
@@ -564,7 +570,11 @@ fn with_end<'a>(alloc: Global, command: Command<'a>) -> Result<Command<'a>, Allo
         optional_number(alloc, "control", "C", help::CONTROL, 1, MOST_PORT),
         optional_number(alloc, "ahead", "S", help::AHEAD, 0, MOST_AHEAD),
     )?;
-    stays.arg(text_option(alloc, "refused", "FILE", help::REFUSED))
+    with_two(
+        stays,
+        text_option(alloc, "refused", "FILE", help::REFUSED),
+        text_option(alloc, "greeting", "TEXT", help::GREETING),
+    )
 }
 
 /// A word that has to be there.
@@ -884,14 +894,15 @@ fn ending_job(words: Service<'_>) -> Result<Job<'_>, WordsFault>
     }
 }
 
-/// The job of a service that stays, where it has journals and a ledger, no end, a lane left for its staff, and
-/// another port for them.
+/// The job of a service that stays, where it has journals and a ledger, no end, a lane left for its staff and another
+/// port for them, and a greeting or none.
 fn staying_job(words: Service<'_>, control: u16) -> Result<Job<'_>, WordsFault>
     requires { words.control ≡ Some control }
     ensures { IsAnswer (allowed (serve_asked (service_values words.entry))) result }
 {
     match (words.journal, words.ledger) {
-        (Some(journal), Some(ledger)) if has_no_end(&words) && leaves_room(&words, control) => {
+        (Some(journal), Some(ledger))
+            if has_no_end(&words) && leaves_room(&words, control) && may_greet(&words) => {
             Ok(Job::Stay(StayWords {
                 fares: words.fares,
                 zone: words.zone,
@@ -901,6 +912,7 @@ fn staying_job(words: Service<'_>, control: u16) -> Result<Job<'_>, WordsFault>
                 control,
                 ahead: words.ahead,
                 refused: words.refused,
+                greeting: words.greeting,
                 journal,
                 ledger,
                 early: words.early,
@@ -914,7 +926,7 @@ fn staying_job(words: Service<'_>, control: u16) -> Result<Job<'_>, WordsFault>
 fn has_more(words: &Service<'_>) -> bool
     ensures { result ≡ has_more (service_values words.now) }
 {
-    words.ahead.is_some() || words.refused.is_some()
+    words.ahead.is_some() || words.refused.is_some() || words.greeting.is_some()
 }
 
 /// Whether there is no number of connections, and no day that is closed at the end.
@@ -929,6 +941,51 @@ fn leaves_room(words: &Service<'_>, control: u16) -> bool
     ensures { result ≡ leaves_room control (service_values words.now) }
 {
     control != words.port && u64::from(words.lanes) <= MOST_STAYING_LANES
+}
+
+/// Whether its greeting is one, where it has any.
+fn may_greet(words: &Service<'_>) -> bool
+    ensures { result ≡ may_greet (service_values words.now) }
+{
+    match words.greeting {
+        Some(text) => is_greeting(text.as_bytes()),
+        None => true,
+    }
+}
+
+/// Whether bytes are a greeting: a short line that can be typed, and no word of staff.
+#[tactic(auto, unfolding(crate::specs::Greeting::is_greeting))]
+fn is_greeting(bytes: &[u8]) -> bool
+    ensures { result ≡ is_greeting bytes.now }
+{
+    !bytes.is_empty()
+        && bytes.len() <= MOST_GREETING_BYTES
+        && are_printable(bytes)
+        && !begins_or_ends_with_space(bytes)
+        && !is_word_of_staff(bytes)
+}
+
+/// Whether each byte is printable ASCII.
+fn are_printable(bytes: &[u8]) -> bool
+    ensures { result ≡ list_all is_printable bytes.now }
+{
+    bytes
+        .iter()
+        .all(|byte| byte.is_ascii_graphic() || *byte == b' ')
+}
+
+/// Whether the first or the last byte is a space.
+fn begins_or_ends_with_space(bytes: &[u8]) -> bool
+    ensures { result ≡ begins_or_ends_with_space bytes.now }
+{
+    bytes.starts_with(b" ") || bytes.ends_with(b" ")
+}
+
+/// Whether bytes are a line by which staff ask something of a service.
+fn is_word_of_staff(bytes: &[u8]) -> bool
+    ensures { result ≡ is_word_of_staff bytes.now }
+{
+    matches!(bytes, b"STOP" | b"STATS") || bytes.starts_with(b"BACKUP ")
 }
 
 /// The job of a service that ends, where there is a port for each lane.
@@ -964,6 +1021,7 @@ fn serve_words<'a>(serve: &ArgMatches<'a>) -> Option<Service<'a>>
         control: port_of(serve, "control"),
         ahead: number_of(serve, "ahead"),
         refused: serve.get_str("refused"),
+        greeting: serve.get_str("greeting"),
         journal: serve.get_str("journal"),
         ledger: serve.get_str("ledger"),
         early: is_flagged(serve, "early"),
