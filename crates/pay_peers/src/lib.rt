@@ -10,6 +10,7 @@ mod fate;
 pub mod limits;
 mod peer;
 mod peers;
+mod ports;
 mod ready;
 mod refused;
 mod sending;
@@ -19,6 +20,7 @@ mod tally;
 mod word;
 
 pub use aside::Aside;
-pub use ready::{Control, Ports, Ready};
+pub use ports::Ports;
+pub use ready::{Control, Ready};
 pub use shared::Shared;
 pub use tally::Tally;

@@ -1,6 +1,7 @@
 //! Places of a service that stays: one for readers and customers, and one for staff.
 
 use crate::aside::Aside;
+use crate::ports::Ports;
 use crate::serving::Serving;
 use crate::shared::Shared;
 use jiff::tz::TimeZone;
@@ -9,7 +10,6 @@ use pay_serve::{Place, StaffPlace};
 use pay_session::{Port, Role};
 use pay_till::{NoTill, Till};
 use std::alloc::Global;
-use std::io::Eprint;
 use std::net::Net;
 use std::sync::Wait;
 use std::time::Clock;
@@ -19,15 +19,6 @@ use std::{io, net};
 #[derive(Drop)]
 pub struct Ready<C, A> {
     serving: Serving<C, A>,
-}
-
-/// Where a service is to be found on this host.
-#[derive(Clone, Copy)]
-pub struct Ports {
-    /// The port of readers and customers.
-    pub everybody: u16,
-    /// The port of staff.
-    pub staff: u16,
 }
 
 /// A port for staff. Three lines are words of this port alone, and none of a session. `STOP` ends the service. `BACKUP /backup/a.db` has
@@ -42,8 +33,8 @@ pub struct Ports {
 /// - `accepted`, `again`, `refused_N`: how many of these begin with `OK`, with `AGAIN`, and with `NO N`. Only taps and corrections are
 ///   answered by the first two.
 #[derive(Drop)]
-pub struct Control<E, A> {
-    serving: Serving<E, A>,
+pub struct Control<C, A> {
+    serving: Serving<C, A>,
     ports: Ports,
 }
 
@@ -62,28 +53,20 @@ impl<C: Net + Clock + Copy, A: Aside> Ready<C, A> {
     }
 }
 
-impl<E: Net + Eprint + Clock + Copy, A: Aside> Control<E, A> {
+impl<C: Net + Clock + Copy, A: Aside> Control<C, A> {
     /// A port at a listener. It ends once somebody asks for the service to stop, or it is told to. Its connections are counted
     /// beside those of the other lanes.
     pub fn new(
-        rt: E,
+        rt: C,
         alloc: Global,
         listener: net::TcpListener,
         ports: Ports,
         shared: Shared,
         aside: A,
-    ) -> io::Result<Control<E, A>> {
+    ) -> io::Result<Control<C, A>> {
         let serving = Serving::new(&rt, alloc, listener, shared, rt, aside)?;
         Ok(Control { serving, ports })
     }
-}
-
-/// Says on standard error where a service is.
-fn say<E: Eprint>(rt: &E, ports: Ports) {
-    let Ports { everybody, staff } = ports;
-    let _ = eprintln!(rt;
-        "farebox: listening on 127.0.0.1:{everybody}, for staff on 127.0.0.1:{staff}"
-    );
 }
 
 impl<C: Clock + Drop, A: Aside> Place for Ready<C, A> {
@@ -109,7 +92,7 @@ impl<C: Clock + Drop, A: Aside> Place for Ready<C, A> {
     }
 }
 
-impl<E: Eprint + Clock + Drop, A: Aside> StaffPlace for Control<E, A> {
+impl<C: Clock + Drop, A: Aside> StaffPlace for Control<C, A> {
     fn serve<R: Wait + Copy, T: Till>(
         self,
         rt: R,
@@ -119,7 +102,7 @@ impl<E: Eprint + Clock + Drop, A: Aside> StaffPlace for Control<E, A> {
         till: &mut T,
     ) -> Lane {
         let Control { mut serving, ports } = self;
-        say(serving.clock(), ports);
+        serving.begin(ports);
         let mut desk = serving.desk(rt, alloc, lane);
         serving.serve_all(&rt, Port::open(zone), &mut desk, till);
         desk.into_lane()

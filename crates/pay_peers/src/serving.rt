@@ -11,6 +11,7 @@ use crate::fate::Fate;
 use crate::limits::{LONGEST_WAIT, MOST_ACCEPTED, MOST_EVENTS, MOST_FAILURES, PIECE_BYTES};
 use crate::peer::Peer;
 use crate::peers::Peers;
+use crate::ports::Ports;
 use crate::refused::Refused;
 use crate::sending::empty;
 use crate::shared::Shared;
@@ -102,9 +103,9 @@ fn keep<A: Aside>(refused: &mut Refused, aside: &mut A)
 }
 
 impl<C: Clock, A: Aside> Serving<C, A> {
-    /// The clock that it was given.
-    pub fn clock(&self) -> &C {
-        &self.clock
+    /// Says that lines are answered from now on, and at which ports.
+    pub fn begin(&mut self, ports: Ports) {
+        self.aside.begin(ports);
     }
 
     /// A desk over a lane, for which a reply is late soon, once the service is told to stop: its shard may keep nothing any more.
@@ -161,11 +162,12 @@ impl<C: Clock, A: Aside> Serving<C, A> {
     /// Does what staff ask of the service by the connection at a place. There is nothing where memory runs out.
     fn obey(&mut self, place: usize, word: Word, role: Role) -> Option<()>
         requires { role ≡ roles.All }
-        ensures asked { OnSome result (IsAsked A.Copies word self.old.aside self.new.aside) }
+        ensures asked { OnSome result (IsAsked A.Copies A.Stops word self.old.aside self.new.aside) }
     {
         match (role, word) {
             (Role::Taps, _) => unreachable!(),
             (Role::All, Word::Stop) => {
+                self.aside.stop();
                 self.stop();
                 self.peers.at(place)?.say_bye()
             }
