@@ -357,8 +357,8 @@ class Service(Theme):
             counts = came.output.decode().partition(" connections=")[2]
             # The three lines of the reader, the CLOSE and the QUIT of each close, and the QUIT of each backup; the
             # connection of STATS is open.
-            wanted = "1 connections_in_all=7 dropped=0 lines=11 accepted=2 again=0\nBYE\n"
-            self.check("what is counted", answers(counts.encode()), answers(wanted.encode()))
+            wanted = "1 connections_in_all=7 dropped=0 lines=11 accepted=2 again=0 taps=2 corrections=0"
+            self.check("what is counted", answers(counts[:len(wanted)].encode()), answers(wanted.encode()))
             self.check("a stop", ran([STAFF, "STOP"], **control), answers(b"BYE\n"))
             wanted = End(0, b"", both_listening(service.port, service.control))
             self.check("how it ends", ended(service.ran, service.said), wanted)

@@ -40,6 +40,12 @@ def hears_nothing_more(peer):
         return True
 
 
+def counted(line):
+    """What STATS counts of connections and lines: what it knows of files stands behind the last refusal."""
+    words = line.decode().split()
+    return words[:1 + max(place for place, word in enumerate(words) if word.startswith("refused_"))]
+
+
 class Stays(Theme):
     """One service, and those that go on with its files."""
 
@@ -191,6 +197,23 @@ class Stays(Theme):
             )
             self.check_stopped("how it ends", service)
 
+    def test_requests_behind_a_line(self):
+        """A line of HTTP ends a connection behind a good line too. What only looks like one does not."""
+        journals, ledger = self.files()
+        with staying(journals, ledger) as service:
+            begun, lines = b"DUE 7 19730\n", b"DUE 7 19730\nQUIT\n"
+            none, bad = b"DUE 7 19730 19730 0 0\n", b"NO 50 BadLine\n"
+            for method in b"GET", b"POST", b"PUT", b"HEAD", b"OPTIONS", b"DELETE", b"PATCH", b"CONNECT", b"TRACE":
+                for name, port in (("everybody", service.port), ("staff", service.control)):
+                    came = talk(port, begun + method + b" / HTTP/1.1\r\n" + lines)
+                    self.check(f"{method} at the port of {name}", answers(came), answers(none + bad))
+            came = talk(service.port, begun + b"GET /" + b"a" * 200 + b"\n" + lines)
+            self.check("a long one", answers(came), answers(none + b"NO 51 LongLine\n"))
+            for line in b"get / HTTP/1.1", b"GET", b"GETS /", b" GET / HTTP/1.1", b"HTTP/1.1 200 OK":
+                came = talk(service.port, begun + line + b"\n" + lines)
+                self.check(f"{line}", answers(came), answers(none + bad + none + b"BYE\n"))
+            self.check_stopped("how it ends", service)
+
     def test_stats(self):
         """What STATS counts, over all lanes; and the room for staff."""
         journals, ledger = self.files()
@@ -214,15 +237,18 @@ class Stays(Theme):
             staff[0].sendall(b"DUE 8 19730\nSTATS\n" + CREDIT.encode())
             came = heard(staff[0], len(due(8))).decode()
             line = line_heard(staff[0])
-            came += " ".join(it for it in line.decode().split(" ") if not it.startswith("seconds="))
+            came += " ".join(it for it in counted(line) if not it.startswith("seconds=")) + "\n"
             came += heard(staff[0], len(BOARDED)).decode()
-            counts = "connections=17 connections_in_all=18 dropped=0 lines=10 accepted=2 again=1"
+            counts = "connections=17 connections_in_all=18 dropped=0 lines=10 accepted=2 again=1 taps=2 corrections=0"
             wanted = f"{due(8)}STATS {counts} refused_20=1 refused_34=1 refused_50=2\n{BOARDED}"
             self.check("what is counted", answers(came.encode()), answers(wanted.encode()))
             self.check_is("whether one more of staff is dropped", hears_nothing_more(connected(service.control)))
             staff[0].sendall(b"STATS\n")
             line = line_heard(staff[0])
-            self.check_is("whether that is counted", b" dropped=1 lines=11 accepted=3 " in line)
+            self.check_is(
+                "whether that is counted",
+                b" dropped=1 lines=11 accepted=3 again=1 taps=2 corrections=1 refused_20=1 " in line,
+            )
             staff.pop().close()
             time.sleep(0.3)
             self.check_stopped("how it ends", service)

@@ -1,5 +1,5 @@
 -- The first word in bytes that are taken line by line.
-use Rattle.std.proofs.Common.{◌≡◌, ◌≢◌, ◌<◌, ◌≤◌, nat_le, take_all, ℕ, Bool, true, false, ◌||◌, ◌&&◌, codes, eqb, if◌then◌else◌, List, [], ◌∷◌, ◌++◌, ◌-◌, length, take, drop, Option, Some, None, Result, Ok, IfOk, ap, sym, subst, ◌∙◌, refl, append_assoc, append-nil, length-append, arith}
+use Rattle.std.proofs.Common.{◌≡◌, ◌<◌, nat_le, take_all, ℕ, Bool, true, false, ◌||◌, ◌&&◌, codes, eqb, if◌then◌else◌, List, [], ◌∷◌, ◌++◌, ◌-◌, length, take, drop, Option, Some, None, Result, Ok, IfOk, ap, sym, subst, ◌∙◌, refl, append_assoc, append-nil, length-append, arith}
 use Rattle.std.specs.Option.{is_some}
 use Rattle.std.specs.Str.{bytes_eq}
 use Rattle.std.proofs.lemmas.Bool.{leb-true, leb-false}
@@ -10,9 +10,9 @@ use Rattle.pay_session.specs.declared.port.Role.TheVariants.{Taps, All}
 use Rattle.pay_peers.specs.declared.word.Word.{Word}
 use Rattle.pay_peers.specs.declared.word.Word.TheVariants.{Backup}
 use Rattle.pay_peers.specs.Lines.{is_path, backup_of, word_of, word_at, found, first_word, IsTaken, Hears}
-use Rattle.pay_peers.specs.Fates.{word_in}
+use Rattle.pay_peers.specs.Fates.{word_in, Lasts}
 use Rattle.pay_peers.specs.declared.fate.Fate.{Fate}
-use Rattle.pay_peers.specs.declared.fate.Fate.TheVariants.{Waits, GoesOn, Asks, Ends}
+use Rattle.pay_peers.specs.declared.fate.Fate.TheVariants.{Waits, GoesOn, Asks, Lost, Ends}
 use Rattle.pay_peers.proofs.Kept.{kept_more}
 
 -- what is kept of a line tells its word: all of a line that may be one, and of a longer one too much for any
@@ -138,6 +138,7 @@ pub none_in : (fate : Fate) → ((word : Word) → fate ≡ Asks word → ⊥) �
 none_in Waits none = refl
 none_in GoesOn none = refl
 none_in (Asks word) none = absurd (none word refl)
+none_in (Lost why) none = refl
 none_in Ends none = refl
 
 -- something more comes behind what is left
@@ -201,7 +202,7 @@ heard_then role begun pending kept rest later left word first next =
 -- a step of a turn, behind what was heard before it
 pub heard_on : (role : Role) (begun pending kept rest later left : List ℕ) (fate : Fate) (before after : Bool)
     → (before ≡ false → Hears role None (begun, pending) (kept, rest)) → (after ≡ false → before ≡ false)
-    → (fate ≢ Ends → after ≡ false → Hears role (word_in fate) (kept, rest) (later, left)) → fate ≢ Ends → after ≡ false
+    → (Lasts fate → after ≡ false → Hears role (word_in fate) (kept, rest) (later, left)) → Lasts fate → after ≡ false
     → Hears role (word_in fate) (begun, pending) (later, left)
 heard_on role begun pending kept rest later left fate before after first opened next lasts still =
     heard_then role begun pending kept rest later left (word_in fate) (first (opened still)) (next lasts still)
@@ -209,9 +210,9 @@ heard_on role begun pending kept rest later left fate before after first opened 
 -- after which the turn goes on
 pub heard_so_far : (role : Role) (begun pending kept rest later left : List ℕ) (fate : Fate) (before after : Bool) → fate ≡ GoesOn
     → (before ≡ false → Hears role None (begun, pending) (kept, rest)) → (after ≡ false → before ≡ false)
-    → (fate ≢ Ends → after ≡ false → Hears role (word_in fate) (kept, rest) (later, left)) → after ≡ false
+    → (Lasts fate → after ≡ false → Hears role (word_in fate) (kept, rest) (later, left)) → after ≡ false
     → Hears role None (begun, pending) (later, left)
 heard_so_far role begun pending kept rest later left fate before after is first opened next still =
     let P : Fate → Type 0 = λ f. Hears role (word_in f) (begun, pending) (later, left) in
-    let lasts : fate ≢ Ends = λ ends. absurd (let same : GoesOn ≡ Ends = sym is ∙ ends in cc) in
+    let lasts : Lasts fate = subst Lasts (sym is) tt in
     subst P is (heard_on role begun pending kept rest later left fate before after first opened next lasts still)

@@ -3,3 +3,4 @@ pub mod Fates
 pub mod Lines
 pub mod Refused
 pub mod Sending
+pub mod Strangers

@@ -15,6 +15,8 @@ pub enum Fate {
     GoesOn,
     /// So it may, once what staff ask of the service is done.
     Asks(Word),
+    /// It was lost, and why: its peer did not end it.
+    Lost(ErrorKind),
     /// It is over.
     Ends,
 }
@@ -26,6 +28,6 @@ pub fn fate_of(error: &io::Error) -> Fate
     match error.kind() {
         ErrorKind::WouldBlock => Fate::Waits,
         ErrorKind::Interrupted => Fate::GoesOn,
-        _ => Fate::Ends,
+        why => Fate::Lost(why),
     }
 }

@@ -1,12 +1,13 @@
 //! A connection that is held.
-ghost use Rattle.std.specs.Prelude.{◌≡◌, ◌≢◌, ◌<◌, string_bytes, ◌++◌, ℕ, Option, IsTrue, true, false, [], length, drop, OnOk, IfOk, OnSome, IfSome};
+ghost use Rattle.std.specs.Prelude.{◌≡◌, ◌<◌, string_bytes, ◌++◌, ◌||◌, ℕ, Option, IsTrue, true, false, [], length, drop, OnOk, IfOk, OnSome, IfSome};
 ghost use Rattle.pay_session.specs.Requests.{has_newline};
 ghost use Rattle.pay_session.specs.Words.{HasAnsweredAt, TakesPiece};
 ghost use Rattle.pay_session.specs.declared.port.Role.TheVariants as roles;
 ghost use Rattle.pay_peers.specs.Backups.{backup_reply};
-ghost use Rattle.pay_peers.specs.Fates.{word_in};
+ghost use Rattle.pay_peers.specs.Fates.{word_in, Lasts};
 ghost use Rattle.pay_peers.specs.Lines.{IsTaken, Hears, AnswersFront};
 ghost use Rattle.pay_peers.specs.Refused.{NotesLine, noted};
+ghost use Rattle.pay_peers.specs.Strangers.{is_http, is_no_command, is_strange};
 ghost use Rattle.pay_peers.specs.declared.word.Word.{Word};
 
 use crate::aside::Aside;
@@ -52,18 +53,55 @@ pub struct Peer {
 }
 
 /// Whether a reply says that its line is no command: 50 `BadLine` or 51 `LongLine`.
-fn is_no_command(reply: &[u8]) -> bool {
-    reply.starts_with(b"NO 50") || reply.starts_with(b"NO 51")
+#[tactic(auto, unfolding(crate::specs::Strangers::is_no_command))]
+fn is_no_command(reply: &[u8]) -> bool
+    ensures { result ≡ is_no_command reply.now }
+{
+    reply.starts_with(b"NO 50 ") || reply.starts_with(b"NO 51 ")
 }
 
-/// What becomes of a connection by lines that were taken.
+/// Whether a line begins as a request of HTTP does.
+#[tactic(auto, unfolding(crate::specs::Strangers::is_http))]
+fn is_http(line: &[u8]) -> bool
+    ensures { result ≡ is_http line.now }
+{
+    line.starts_with(b"GET ")
+        || line.starts_with(b"POST ")
+        || line.starts_with(b"PUT ")
+        || line.starts_with(b"HEAD ")
+        || line.starts_with(b"OPTIONS ")
+        || line.starts_with(b"DELETE ")
+        || line.starts_with(b"PATCH ")
+        || line.starts_with(b"CONNECT ")
+        || line.starts_with(b"TRACE ")
+}
+
+/// Whether a line shows by its reply that its peer speaks another protocol, which may have had a line answered before it.
+#[tactic(auto, unfolding(crate::specs::Strangers::is_strange))]
+fn is_strange(known: bool, line: &[u8], reply: &[u8]) -> bool
+    ensures { result ≡ is_strange known line.now reply.now }
+{
+    is_no_command(reply) && (!known || is_http(line))
+}
+
+/// What stands behind so many bytes.
+fn behind(bytes: &[u8], count: usize) -> &[u8]
+    ensures { result.now ≡ drop count bytes.now }
+{
+    match bytes.get(count..) {
+        Some(behind) => behind,
+        None => &[],
+    }
+}
+
+/// What becomes of a connection by lines that were taken. Their replies are written to memory, so that alone can have failed.
 fn fate_after(taken: Result<Option<Word>, WriteFault>) -> Fate
-    ensures { result ≢ Fate.Ends → taken ≡ Ok (word_in result) }
+    ensures { Lasts result → taken ≡ Ok (word_in result) }
 {
     match taken {
         Ok(None) => Fate::GoesOn,
         Ok(Some(word)) => Fate::Asks(word),
-        Err(_) => Fate::Ends,
+        Err(_) => Fate::Lost(ErrorKind::OutOfMemory),
     }
 }
 
@@ -133,31 +171,26 @@ impl Peer {
         self.say(b"BYE\n")
     }
 
-    /// Counts the reply to the begun line that stands behind so many bytes, if one does, and notes the line if it is to be kept. Where the
-    /// first line is no command, no more are taken, since the peer speaks another protocol.
+    /// Counts the reply to the begun line that stands behind so many bytes, if one does, and notes the line if it is to be kept. Where
+    /// that shows that the peer speaks another protocol, no more lines are taken.
     fn note_reply(&mut self, before: usize) -> Result<(), WriteFault>
         ensures begun { self.new.begun ≡ self.old.begun }
         ensures pending { self.new.pending.items ≡ self.old.pending.items }
         ensures conversation { self.new.conversation ≡ self.old.conversation }
         ensures unsent { self.new.unsent.items ≡ self.old.unsent.items }
-        ensures over { self.new.over ≡ false → self.old.over ≡ false }
+        ensures over { self.new.over ≡ (self.old.over || is_strange self.old.known self.old.begun (drop before self.old.unsent.items)) }
         ensures instant { self.new.refused.instant ≡ self.old.refused.instant }
         ensures noted { OnOk result (self.new.refused.lines.items
             ≡ self.old.refused.lines.items ++ noted self.old.refused.instant (drop before self.old.unsent.items) self.old.begun) }
     {
         let line = self.begun.text();
-        let noted = match self.unsent.get(before..) {
-            Some(reply) => {
-                if !reply.is_empty() {
-                    self.seat.tally().count(reply);
-                    self.over |= !self.known && is_no_command(reply);
-                    self.known = true;
-                }
-                self.refused.note(reply, line)
-            }
-            None => self.refused.note(b"", line),
-        };
-        noted.map_err(|_| WriteFault::Failed(ErrorKind::OutOfMemory))
+        let reply = behind(&self.unsent, before);
+        self.over |= is_strange(self.known, line, reply);
+        self.known |= !reply.is_empty();
+        self.seat.tally().count(line, reply);
+        self.refused
+            .note(reply, line)
+            .map_err(|_| WriteFault::Failed(ErrorKind::OutOfMemory))
     }
 
     /// Has the conversation take a line, or a part of one, and answer it.
@@ -332,7 +365,7 @@ impl Peer {
         ensures same_till { T.origin till.new ≡ T.origin till.old }
         ensures staff { (word : Word) → result ≡ Fate.Asks word → port.entry.role ≡ roles.All }
         ensures over { self.new.over ≡ false → self.old.over ≡ false }
-        ensures heard { result ≢ Fate.Ends → self.new.over ≡ false → Hears port.entry.role (word_in result) (self.old.begun, self.old.pending.items) (self.new.begun, self.new.pending.items) }
+        ensures heard { Lasts result → self.new.over ≡ false → Hears port.entry.role (word_in result) (self.old.begun, self.old.pending.items) (self.new.begun, self.new.pending.items) }
     {
         pay_session::laws::piece_by_piece::<D, T>();
         let count = match (&self.stream).read(buffer) {
@@ -354,7 +387,7 @@ impl Peer {
         ensures same_till { T.origin till.new ≡ T.origin till.old }
         ensures staff { (word : Word) → result ≡ Fate.Asks word → port.entry.role ≡ roles.All }
         ensures over { self.new.over ≡ false → self.old.over ≡ false }
-        ensures taken { result ≢ Fate.Ends → self.new.over ≡ false
+        ensures taken { Lasts result → self.new.over ≡ false
             → IsTaken port.entry.role self.old.begun self.old.pending.items (word_in result) self.new.begun self.new.pending.items }
     {
         pay_session::laws::piece_by_piece::<D, T>();
@@ -368,7 +401,7 @@ impl Peer {
     }
 
     /// Says that no more comes, and takes what the peer still sends: bytes that nobody has taken when a stream is dropped make the system
-    /// break the connection, and the peer may lose replies by it.
+    /// break the connection, and the peer may lose replies by it. However that ends, the connection was over before.
     fn part(&mut self, buffer: &mut [u8]) -> Fate
         ensures begun { self.new.begun ≡ self.old.begun }
         ensures pending { self.new.pending.items ≡ self.old.pending.items }
@@ -388,7 +421,10 @@ impl Peer {
         match (&self.stream).read(buffer) {
             Ok(0) => Fate::Ends,
             Ok(_) => Fate::GoesOn,
-            Err(error) => fate_of(&error),
+            Err(error) => match fate_of(&error) {
+                Fate::Lost(_) => Fate::Ends,
+                fate => fate,
+            },
         }
     }
 
@@ -415,7 +451,7 @@ impl Peer {
         ensures same_till { T.origin till.new ≡ T.origin till.old }
         ensures staff { (word : Word) → result ≡ Fate.Asks word → port.entry.role ≡ roles.All }
         ensures over { self.new.over ≡ false → self.old.over ≡ false }
-        ensures heard { result ≢ Fate.Ends → self.new.over ≡ false → Hears port.entry.role (word_in result) (self.old.begun, self.old.pending.items) (self.new.begun, self.new.pending.items) }
+        ensures heard { Lasts result → self.new.over ≡ false → Hears port.entry.role (word_in result) (self.old.begun, self.old.pending.items) (self.new.begun, self.new.pending.items) }
     {
         pay_session::laws::piece_by_piece::<D, T>();
         match self.send() {
@@ -447,7 +483,7 @@ impl Peer {
         ensures same_till { T.origin till.new ≡ T.origin till.old }
         ensures staff { (word : Word) → result ≡ Fate.Asks word → port.entry.role ≡ roles.All }
         ensures over { self.new.over ≡ false → self.old.over ≡ false }
-        ensures heard { result ≢ Fate.Ends → self.new.over ≡ false → Hears port.entry.role (word_in result) (self.old.begun, self.old.pending.items) (self.new.begun, self.new.pending.items) }
+        ensures heard { Lasts result → self.new.over ≡ false → Hears port.entry.role (word_in result) (self.old.begun, self.old.pending.items) (self.new.begun, self.new.pending.items) }
     {
         pay_session::laws::piece_by_piece::<D, T>();
         for _ in 0..TURN_PIECES {

@@ -23,15 +23,17 @@ pub struct Ready<C, A> {
 
 /// A port for staff. Three lines are words of this port alone, and none of a session. `STOP` ends the service. `BACKUP /backup/a.db` has
 /// the ledger copied to that path, and is answered by `OK 45056`, the bytes that were copied, or by `NO 53 NoBackup`. `STATS` is answered
-/// by one line, `STATS seconds=9 connections=2 connections_in_all=5 dropped=0 lines=7 accepted=3 again=1`,
-/// and then ` refused_20=1` for each number of a refusal that occurred, by rising number. It says of all lanes together:
+/// by one line, `STATS seconds=9 connections=2 connections_in_all=5 dropped=0 lines=7 accepted=3 again=1 taps=2 corrections=1`,
+/// then ` refused_20=1` for each number of a refusal that occurred, by rising number, and then what an [`Aside`] knows of files. It says of
+/// all lanes together:
 ///
 /// - `seconds`: for how long this port has been served;
 /// - `connections`, `connections_in_all`: how many are held now, and were ever held;
 /// - `dropped`: how many were dropped as they came, for want of room or memory;
 /// - `lines`: how many replies there were in sessions, which is one to each line, and to a rest that no newline ends;
 /// - `accepted`, `again`, `refused_N`: how many of these begin with `OK`, with `AGAIN`, and with `NO N`. Only taps and corrections are
-///   answered by the first two.
+///   answered by the first two;
+/// - `taps`, `corrections`: how many of the accepted lines were `TAP`, and how many `FIX`.
 #[derive(Drop)]
 pub struct Control<C, A> {
     serving: Serving<C, A>,

@@ -5,7 +5,7 @@ ghost use Rattle.pay_peers.specs.declared.word.Word.{Word};
 
 use crate::fate::{Fate, fate_of};
 use crate::limits::{KEPT_ROOM, TURN_SENDS};
-use std::io::Write;
+use std::io::{ErrorKind, Write};
 
 /// Takes all bytes away, and gives their room back where it is large.
 pub fn empty(bytes: &mut Vec<u8>)
@@ -25,7 +25,7 @@ fn send_once<W: Write>(stream: &mut W, unsent: &[u8], sent: &mut usize) -> Fate
 {
     let (_, rest) = unsent.split_at(*sent);
     match stream.write(rest) {
-        Ok(0) => Fate::Ends,
+        Ok(0) => Fate::Lost(ErrorKind::WriteZero),
         Ok(count) => {
             *sent += count;
             Fate::GoesOn

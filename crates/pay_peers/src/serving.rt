@@ -24,6 +24,7 @@ use pay_session::{Port, Role};
 use pay_shard::Desk;
 use pay_till::Till;
 use std::alloc::Global;
+use std::io::ErrorKind;
 use std::net::Net;
 use std::sync::atomic::Ordering;
 use std::sync::{Arc, Wait};
@@ -173,7 +174,8 @@ impl<C: Clock, A: Aside> Serving<C, A> {
             }
             (Role::All, Word::Stats) => {
                 let seconds = self.seconds();
-                let line = self.shared.tally.line(self.alloc, seconds).ok()?;
+                let tally = &self.shared.tally;
+                let line = tally.line(self.alloc, seconds, &self.aside).ok()?;
                 self.peers.at(place)?.say(line.as_bytes())
             }
             (Role::All, Word::Backup(path)) => {
@@ -207,6 +209,12 @@ impl<C: Clock, A: Aside> Serving<C, A> {
         }
     }
 
+    /// Lets the connection at a place go, which was lost.
+    fn lose(&mut self, place: usize, why: ErrorKind) {
+        self.aside.lose(why);
+        self.peers.let_go(place);
+    }
+
     /// The same, and what becomes of it: it has one more turn soon, it waits, or it is let go.
     fn serve<D: Desk, T: Till>(&mut self, place: usize, port: Port<'_>, desk: &mut D, till: &mut T)
         ensures served { HasAnsweredAt D.parts T.Closes (port.entry.zone.now, port.entry.role) (desk.old, till.old) (desk.new, till.new) }
@@ -217,8 +225,9 @@ impl<C: Clock, A: Aside> Serving<C, A> {
             Fate::GoesOn => self.peers.queue(place),
             Fate::Asks(word) => match self.obey(place, word, port.role) {
                 Some(()) => self.peers.queue(place),
-                None => self.peers.let_go(place),
+                None => self.lose(place, ErrorKind::OutOfMemory),
             },
+            Fate::Lost(why) => self.lose(place, why),
             Fate::Ends => self.peers.let_go(place),
         }
     }

@@ -1,6 +1,7 @@
 //! What a service counts, over all its lanes.
 ghost use Rattle.std.specs.Prelude.{◌≡◌, ℕ, ◌≤◌, ◌∷◌, ◌++◌, OnOk, string_bytes, decimal};
 
+use crate::aside::Aside;
 use crate::limits::{MOST_PEERS, MOST_STAFF};
 use pay_session::Role;
 use std::alloc::{AllocError, Global};
@@ -84,7 +85,9 @@ pub struct Tally {
     held: AtomicU64,
     dropped: AtomicU64,
     lines: AtomicU64,
-    accepted: AtomicU64,
+    // Of those that were accepted.
+    taps: AtomicU64,
+    corrections: AtomicU64,
     again: AtomicU64,
     // By the number of the refusal.
     refused: Vec<AtomicU64>,
@@ -147,7 +150,8 @@ impl Tally {
             held: AtomicU64::new(0),
             dropped: AtomicU64::new(0),
             lines: AtomicU64::new(0),
-            accepted: AtomicU64::new(0),
+            taps: AtomicU64::new(0),
+            corrections: AtomicU64::new(0),
             again: AtomicU64::new(0),
             refused,
         })
@@ -179,11 +183,15 @@ impl Tally {
         self.held.fetch_add(1, SeqCst);
     }
 
-    /// Counts the reply to a line.
-    pub(crate) fn count(&self, reply: &[u8]) {
+    /// Counts a line by its reply, if it has one.
+    pub(crate) fn count(&self, line: &[u8], reply: &[u8]) {
+        if reply.is_empty() {
+            return;
+        }
         self.lines.fetch_add(1, SeqCst);
         let counter = match read_reply(reply) {
-            Said::Accepted => Some(&self.accepted),
+            Said::Accepted if line.starts_with(b"T") => Some(&self.taps),
+            Said::Accepted => Some(&self.corrections),
             Said::Again => Some(&self.again),
             Said::Refused(number) => self.refused.get(number),
             Said::Else => None,
@@ -193,8 +201,13 @@ impl Tally {
         }
     }
 
-    /// The reply to `STATS`, so many seconds after the service began, with its newline.
-    pub(crate) fn line(&self, alloc: Global, seconds: u64) -> Result<String, AllocError> {
+    /// The reply to `STATS`, so many seconds after the service began, with its newline. What is known of files stands at its end.
+    pub(crate) fn line<A: Aside>(
+        &self,
+        alloc: Global,
+        seconds: u64,
+        aside: &A,
+    ) -> Result<String, AllocError> {
         let mut line = String::from_str(alloc, "STATS")?;
         put(&mut line, "seconds", seconds)?;
         let connections = self.readers.taken() + self.staff.taken();
@@ -202,9 +215,14 @@ impl Tally {
         put(&mut line, "connections_in_all", self.held.load(SeqCst))?;
         put(&mut line, "dropped", self.dropped.load(SeqCst))?;
         put(&mut line, "lines", self.lines.load(SeqCst))?;
-        put(&mut line, "accepted", self.accepted.load(SeqCst))?;
+        let taps = self.taps.load(SeqCst);
+        let corrections = self.corrections.load(SeqCst);
+        put(&mut line, "accepted", taps.saturating_add(corrections))?;
         put(&mut line, "again", self.again.load(SeqCst))?;
+        put(&mut line, "taps", taps)?;
+        put(&mut line, "corrections", corrections)?;
         self.put_refused(&mut line)?;
+        aside.put_stats(&mut line)?;
         line.push('\n')?;
         Ok(line)
     }

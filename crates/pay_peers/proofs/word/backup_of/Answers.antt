@@ -1,4 +1,4 @@
-use Rattle.std.proofs.Common.{rules, arith, ◌≡◌, ◌≤◌, ◌++◌, List, ℕ, length, take, drop, take_all, ap, ◌∙◌}
+use Rattle.std.proofs.Common.{rules, ◌≡◌, ◌≤◌, ◌++◌, List, ℕ, length, take, drop, take_all, ap, ◌∙◌}
 use Rattle.pay_peers.proofs.FirstWords.{asks_for}
 use Rattle.pay_peers.proofs.word.backup_of.Goals as goal
 

@@ -1,4 +1,4 @@
-use Rattle.std.proofs.Common.{◌≡◌, ◌++◌, ap, ◌∙◌}
+use Rattle.std.proofs.Common.{◌++◌, ap, ◌∙◌}
 use Rattle.pay_peers.specs.Lines.{word_at}
 use Rattle.pay_peers.proofs.FirstWords.{word_kept}
 use Rattle.pay_peers.proofs.word.Line.finish.Goals as goal
