@@ -88,10 +88,12 @@ def rest_of(peer):
         taken += more
 
 
-def talk(port, lines):
-    """What is replied to these lines on a connection of their own."""
+def talk(port, lines, ends=False):
+    """What is replied to these lines on a connection of their own, on which no more comes if it ends."""
     with connected(port) as peer:
         peer.sendall(lines)
+        if ends:
+            peer.shutdown(socket.SHUT_WR)
         return rest_of(peer)
 
 

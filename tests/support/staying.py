@@ -17,9 +17,9 @@ class Staying(NamedTuple):
     control: int
     said: bytes
 
-    def stopped(self):
-        """What it comes to that is told to stop."""
-        replies = talk(self.control, b"STOP\n")
+    def stopped(self, greeting=b""):
+        """What it comes to that is told to stop, after its greeting, if it has one."""
+        replies = talk(self.control, greeting + b"STOP\n")
         came = ended(self.ran, self.said)
         return came._replace(output=replies + came.output)
 

@@ -214,6 +214,48 @@ class Stays(Theme):
                 self.check(f"{line}", answers(came), answers(none + bad + none + b"BYE\n"))
             self.check_stopped("how it ends", service)
 
+    def test_greeting(self):
+        """With --greeting a connection has to begin with that line. Nothing counts before it, not even a word of
+        staff, and what is refused for it is counted and kept."""
+        journals, ledger = self.files()
+        path = os.path.join(self.folder, "refused")
+        since, greeting, lines = int(time.time()), b"let me in\n", boarding(7).encode() + b"QUIT\n"
+        strangers = (
+            (lines, boarding(7).rstrip()), (b"\n" + greeting + lines, ""),
+            (b"STOP\n" + greeting + lines, "STOP"), (b"STATS\n", "STATS"), (b"QUIT\n", "QUIT"),
+            (b"let me\n" + greeting + lines, "let me"), (b"let me inside\n" + lines, "let me inside"),
+            (b"let me in\r\n" + lines, "let me in\\x0d"), (b"Let me in\n" + lines, "Let me in"),
+            (b"GET / HTTP/1.1\r\n" + lines, "GET / HTTP/1.1\\x0d"), (b"x" * 128 + b"\n" + lines, "x" * 128),
+        )
+        with staying(journals, ledger, more=("--greeting", "let me in", "--refused", path)) as service:
+            kept = ""
+            for port in service.port, service.control:
+                for text, line in strangers:
+                    self.check(f"{line[:40]!r} at {port}", answers(talk(port, text)), answers(b"NO 50 BadLine\n"))
+                    kept += f"50 {line}\n"
+                came = talk(port, greeting[:-1] + b"x" * 200 + b"\n" + lines)
+                self.check(f"a long line at {port}", answers(came), answers(b"NO 51 LongLine\n"))
+                kept += f"51 let me in{'x' * 120}\n"
+                self.check(f"no line at {port}", answers(talk(port, greeting[:-1], ends=True)), answers(b""))
+                came = talk(port, greeting + b"DUE 7 19730\nQUIT\n")
+                self.check(f"a friend at {port}", answers(came), answers(b"DUE 7 19730 19730 0 0\nBYE\n"))
+                self.check(f"no line behind it at {port}", answers(talk(port, greeting, ends=True)), answers(b""))
+                came = talk(port, greeting + greeting + b"DUE 7 19730\n")
+                self.check(f"it twice at {port}", answers(came), answers(b"NO 50 BadLine\n"))
+                kept += "50 let me in\n"
+            self.check_refused("what is kept", path, kept, since)
+            with connected(service.port) as reader, connected(service.control) as staff:
+                for byte in greeting + boarding(8).encode():
+                    reader.sendall(bytes([byte]))
+                    time.sleep(0.0005)
+                self.check("byte by byte", answers(heard(reader, len(BOARDED))), answers(BOARDED.encode()))
+                staff.sendall(greeting + b"STATS\n")
+                # Each port refused the strangers, a long line, and a second greeting; it answered DUE and QUIT.
+                count = len(strangers)
+                wanted = f" lines={2 * count + 9} accepted=1 again=0 taps=1 corrections=0 refused_50={2 * count + 2} "
+                self.check_is("whether that is counted", wanted in " ".join(counted(line_heard(staff))))
+            self.check("how it ends", service.stopped(greeting), service.wanted())
+
     def test_stats(self):
         """What STATS counts, over all lanes; and the room for staff."""
         journals, ledger = self.files()

@@ -17,6 +17,7 @@ use Rattle.pay_peers.specs.contracts.shared.Shared as shared
 use Rattle.pay_peers.specs.contracts.tally.Seat as seat
 use Rattle.pay_peers.specs.contracts.tally.Tally as tallies
 use Rattle.pay_peers.proofs.tally.Tally.TheSendSync as tally
+use Rattle.pay_peers.proofs.greeting.Greeting.TheSendSync as greeting
 use Rattle.pay_peers.proofs.refused.Refused.TheSendSync as refused
 use Rattle.pay_peers.proofs.word.Line.TheSendSync as line
 
@@ -27,10 +28,10 @@ Seat-send : IsSend seat.the_row
 Seat-send = search (Tally-send, tally.the_sync, crosses, sendable) depth 8
 
 Shared-send : IsSend shared.the_row
-Shared-send = search (Tally-send, tally.the_sync, crosses, sendable) depth 20
+Shared-send = search (greeting.the_send, Tally-send, tally.the_sync, crosses, sendable) depth 20
 
 Peer-send : IsSend peer.the_row
-Peer-send = search (Seat-send, line.the_send, refused.the_send, conversation.the_send, stream.the_send, crosses, sendable) depth 20
+Peer-send = search (Seat-send, greeting.the_send, line.the_send, refused.the_send, conversation.the_send, stream.the_send, crosses, sendable) depth 20
 
 Peers-send : IsSend peers.the_row
 Peers-send = search (Peer-send, crosses, sendable) depth 14
@@ -50,7 +51,7 @@ module _ (C A : RattleType) where
             (
               search (crosses, sendable) depth 8,
               (
-                search (Tally-send, tally.the_sync, crosses, sendable) depth 20,
+                search (greeting.the_send, Tally-send, tally.the_sync, crosses, sendable) depth 20,
                 (
                   c,
                   (

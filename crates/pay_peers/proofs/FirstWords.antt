@@ -1,5 +1,5 @@
 -- The first word in bytes that are taken line by line.
-use Rattle.std.proofs.Common.{◌≡◌, ◌<◌, nat_le, take_all, ℕ, Bool, true, false, ◌||◌, ◌&&◌, codes, eqb, if◌then◌else◌, List, [], ◌∷◌, ◌++◌, ◌-◌, length, take, drop, Option, Some, None, Result, Ok, IfOk, ap, sym, subst, ◌∙◌, refl, append_assoc, append-nil, length-append, arith}
+use Rattle.std.proofs.Common.{◌≡◌, ◌<◌, nat_le, take_all, ℕ, Bool, true, false, ◌||◌, ◌&&◌, codes, eqb, if◌then◌else◌, List, [], ◌∷◌, ◌++◌, ◌-◌, length, take, drop, Option, Some, None, Result, Ok, Err, IfOk, ap, sym, subst, ◌∙◌, refl, append_assoc, append-nil, length-append, arith}
 use Rattle.std.specs.Option.{is_some}
 use Rattle.std.specs.Str.{bytes_eq}
 use Rattle.std.proofs.lemmas.Bool.{leb-true, leb-false}
@@ -11,6 +11,7 @@ use Rattle.pay_peers.specs.declared.word.Word.{Word}
 use Rattle.pay_peers.specs.declared.word.Word.TheVariants.{Backup}
 use Rattle.pay_peers.specs.Lines.{is_path, backup_of, word_of, word_at, found, first_word, IsTaken, Hears}
 use Rattle.pay_peers.specs.Fates.{word_in, Lasts}
+use Rattle.pay_peers.specs.Greetings.{Greets, is_greeted}
 use Rattle.pay_peers.specs.declared.fate.Fate.{Fate}
 use Rattle.pay_peers.specs.declared.fate.Fate.TheVariants.{Waits, GoesOn, Asks, Lost, Ends}
 use Rattle.pay_peers.proofs.Kept.{kept_more}
@@ -96,6 +97,13 @@ taken_then role begun piece kept rest later behind word first next = record {
   goes_on = λ is more. ap (first_word role begun) (append_assoc first.front next.front more) ∙ first.goes_on refl (next.front ++ more) ∙ next.goes_on is more;
 }
 
+-- a front was taken, and then what a call took of the rest
+pub taken_behind : {E : Type 0} (role : Role) (begun piece kept rest later left : List ℕ) (taken : Result (Option Word) E) (over : Bool)
+    → (over ≡ false → IsTaken role begun piece None kept rest) → IfOk taken (λ word. over ≡ false → IsTaken role kept rest word later left)
+    → IfOk taken (λ word. over ≡ false → IsTaken role begun piece word later left)
+taken_behind role begun piece kept rest later left (Ok word) over first next = λ still. taken_then role begun piece kept rest later left word (first still) (next still)
+taken_behind role begun piece kept rest later left (Err e) over first next = tt
+
 -- the same by what a call says of its line
 pub line_is_taken : (role : Role) (begun bytes text behind kept : List ℕ) (word : Option Word) → bytes ≡ text ++ 10 ∷ behind → has_newline text ≡ false
     → word ≡ word_at role (begun ++ text) → kept ≡ [] → IsTaken role begun bytes word kept behind
@@ -150,45 +158,57 @@ taken_more role begun piece kept rest more is = record {
   goes_on = λ _ m. is.goes_on refl m;
 }
 
-pub heard_pending : (role : Role) (begun pending kept left : List ℕ) (word : Option Word) → IsTaken role begun pending word kept left
-    → Hears role word (begun, pending) (kept, left)
-heard_pending role begun pending kept left word is =
+pub heard_pending : (role : Role) (awaited after : Option (List ℕ)) (begun pending kept left : List ℕ) (word : Option Word) → IsTaken role begun pending word kept left
+    → Greets (awaited, begun) pending (after, kept, left) → Hears role word (awaited, begun, pending) (after, kept, left)
+heard_pending role awaited after begun pending kept left word is greets =
     let P : List ℕ → Type 0 = λ piece. IsTaken role begun piece word kept left in
-    record { came = []; taken = subst P (sym (append-nil pending)) is }
+    let Q : List ℕ → Type 0 = λ piece. Greets (awaited, begun) piece (after, kept, left) in
+    record { came = []; taken = subst P (sym (append-nil pending)) is; greets = subst Q (sym (append-nil pending)) greets }
 
-pub heard_read : (role : Role) (begun pending piece kept left : List ℕ) (word : Option Word) → pending ≡ [] → IsTaken role begun piece word kept left
-    → Hears role word (begun, pending) (kept, left)
-heard_read role begun pending piece kept left word none is =
+pub heard_read : (role : Role) (awaited after : Option (List ℕ)) (begun pending piece kept left : List ℕ) (word : Option Word) → pending ≡ []
+    → IsTaken role begun piece word kept left → Greets (awaited, begun) piece (after, kept, left) → Hears role word (awaited, begun, pending) (after, kept, left)
+heard_read role awaited after begun pending piece kept left word none is greets =
     let P : List ℕ → Type 0 = λ before. IsTaken role begun (before ++ piece) word kept left in
-    record { came = piece; taken = subst P (sym none) is }
+    let Q : List ℕ → Type 0 = λ before. Greets (awaited, begun) (before ++ piece) (after, kept, left) in
+    record { came = piece; taken = subst P (sym none) is; greets = subst Q (sym none) greets }
 
 -- the same by what taking the lines of a piece came to
-pub heard_by : {E : Type 0} (role : Role) (begun pending piece kept left : List ℕ) (fate : Fate) (taken : Result (Option Word) E) (over : Bool) → pending ≡ []
-    → taken ≡ Ok (word_in fate) → IfOk taken (λ word. over ≡ false → IsTaken role begun piece word kept left) → over ≡ false
-    → Hears role (word_in fate) (begun, pending) (kept, left)
-heard_by {E} role begun pending piece kept left fate taken over none whole is lasts =
+pub heard_by : {E : Type 0} (role : Role) (awaited after : Option (List ℕ)) (begun pending piece kept left : List ℕ) (fate : Fate) (taken : Result (Option Word) E) (over : Bool)
+    → pending ≡ [] → taken ≡ Ok (word_in fate) → IfOk taken (λ word. over ≡ false → IsTaken role begun piece word kept left)
+    → IfOk taken (λ _. over ≡ false → Greets (awaited, begun) piece (after, kept, left)) → over ≡ false
+    → Hears role (word_in fate) (awaited, begun, pending) (after, kept, left)
+heard_by {E} role awaited after begun pending piece kept left fate taken over none whole is greets lasts =
     let P : Result (Option Word) E → Type 0 = λ came. IfOk came (λ word. over ≡ false → IsTaken role begun piece word kept left) in
-    heard_read role begun pending piece kept left (word_in fate) none (subst P whole is lasts)
+    let Q : Result (Option Word) E → Type 0 = λ came. IfOk came (λ _. over ≡ false → Greets (awaited, begun) piece (after, kept, left)) in
+    heard_read role awaited after begun pending piece kept left (word_in fate) none (subst P whole is lasts) (subst Q whole greets lasts)
 
 -- what it began with was left so by another call
-pub heard_from : (role : Role) (begun pending first waits kept left : List ℕ) (word : Option Word) → first ≡ begun → waits ≡ pending
-    → Hears role word (first, waits) (kept, left) → Hears role word (begun, pending) (kept, left)
-heard_from role begun pending first waits kept left word same rest is =
-    let P : List ℕ → Type 0 = λ b. Hears role word (b, waits) (kept, left) in
-    let Q : List ℕ → Type 0 = λ p. Hears role word (begun, p) (kept, left) in
-    subst Q rest (subst P same is)
+pub heard_from : (role : Role) (awaited waited after : Option (List ℕ)) (begun pending first waits kept left : List ℕ) (word : Option Word)
+    → waited ≡ awaited → first ≡ begun → waits ≡ pending
+    → Hears role word (waited, first, waits) (after, kept, left) → Hears role word (awaited, begun, pending) (after, kept, left)
+heard_from role awaited waited after begun pending first waits kept left word still same rest is =
+    let O : Option (List ℕ) → Type 0 = λ a. Hears role word (a, first, waits) (after, kept, left) in
+    let P : List ℕ → Type 0 = λ b. Hears role word (awaited, b, waits) (after, kept, left) in
+    let Q : List ℕ → Type 0 = λ p. Hears role word (awaited, begun, p) (after, kept, left) in
+    subst Q rest (subst P same (subst O still is))
 
--- nothing is heard by a call that leaves both as they were
-pub heard_nothing : (role : Role) (begun pending kept left : List ℕ) (fate : Fate) → ((word : Word) → fate ≡ Asks word → ⊥) → kept ≡ begun → left ≡ pending
-    → Hears role (word_in fate) (begun, pending) (kept, left)
-heard_nothing role begun pending kept left fate none same rest =
+-- nothing is heard by a call that leaves all as it was
+pub heard_nothing : (role : Role) (awaited after : Option (List ℕ)) (begun pending kept left : List ℕ) (fate : Fate) → ((word : Word) → fate ≡ Asks word → ⊥)
+    → after ≡ awaited → kept ≡ begun → left ≡ pending → Hears role (word_in fate) (awaited, begun, pending) (after, kept, left)
+heard_nothing role awaited after begun pending kept left fate none still same rest =
     let P : Option Word → Type 0 = λ word. IsTaken role begun pending word kept left in
-    heard_pending role begun pending kept left (word_in fate) (subst P (none_in fate none) (still_taken role begun pending begun kept pending left None (none_taken role begun pending) same rest))
+    heard_pending role awaited after begun pending kept left (word_in fate)
+    (subst P (none_in fate none) (still_taken role begun pending begun kept pending left None (none_taken role begun pending) same rest))
+    (λ more.
+    ap (λ a. is_greeted a (begun ++ (pending ++ more))) (sym still)
+    ∙ ap (λ (b : List ℕ). is_greeted after (b ++ (pending ++ more))) (sym same)
+    ∙ ap (λ (p : List ℕ). is_greeted after (kept ++ (p ++ more))) (sym rest))
 
 -- one after the other
-pub heard_then : (role : Role) (begun pending kept rest later left : List ℕ) (word : Option Word) → Hears role None (begun, pending) (kept, rest)
-    → Hears role word (kept, rest) (later, left) → Hears role word (begun, pending) (later, left)
-heard_then role begun pending kept rest later left word first next =
+pub heard_then : (role : Role) (awaited between after : Option (List ℕ)) (begun pending kept rest later left : List ℕ) (word : Option Word)
+    → Hears role None (awaited, begun, pending) (between, kept, rest) → Hears role word (between, kept, rest) (after, later, left)
+    → Hears role word (awaited, begun, pending) (after, later, left)
+heard_then role awaited between after begun pending kept rest later left word first next =
     let P : List ℕ → Type 0 = λ piece. IsTaken role begun piece word later left in
     record {
       came = first.came ++ next.came;
@@ -197,22 +217,28 @@ heard_then role begun pending kept rest later left word first next =
           (taken_more role begun (pending ++ first.came) kept rest next.came first.taken)
           next.taken
           );
+      greets = λ more.
+          ap (λ (l : List ℕ). is_greeted awaited (begun ++ (l ++ more))) (sym (append_assoc pending first.came next.came))
+          ∙ ap (λ (l : List ℕ). is_greeted awaited (begun ++ l)) (append_assoc (pending ++ first.came) next.came more)
+          ∙ first.greets (next.came ++ more)
+          ∙ ap (λ (l : List ℕ). is_greeted between (kept ++ l)) (sym (append_assoc rest next.came more))
+          ∙ next.greets more;
     }
 
 -- a step of a turn, behind what was heard before it
-pub heard_on : (role : Role) (begun pending kept rest later left : List ℕ) (fate : Fate) (before after : Bool)
-    → (before ≡ false → Hears role None (begun, pending) (kept, rest)) → (after ≡ false → before ≡ false)
-    → (Lasts fate → after ≡ false → Hears role (word_in fate) (kept, rest) (later, left)) → Lasts fate → after ≡ false
-    → Hears role (word_in fate) (begun, pending) (later, left)
-heard_on role begun pending kept rest later left fate before after first opened next lasts still =
-    heard_then role begun pending kept rest later left (word_in fate) (first (opened still)) (next lasts still)
+pub heard_on : (role : Role) (awaited between later_awaited : Option (List ℕ)) (begun pending kept rest later left : List ℕ) (fate : Fate) (before after : Bool)
+    → (before ≡ false → Hears role None (awaited, begun, pending) (between, kept, rest)) → (after ≡ false → before ≡ false)
+    → (Lasts fate → after ≡ false → Hears role (word_in fate) (between, kept, rest) (later_awaited, later, left)) → Lasts fate → after ≡ false
+    → Hears role (word_in fate) (awaited, begun, pending) (later_awaited, later, left)
+heard_on role awaited between later_awaited begun pending kept rest later left fate before after first opened next lasts still =
+    heard_then role awaited between later_awaited begun pending kept rest later left (word_in fate) (first (opened still)) (next lasts still)
 
 -- after which the turn goes on
-pub heard_so_far : (role : Role) (begun pending kept rest later left : List ℕ) (fate : Fate) (before after : Bool) → fate ≡ GoesOn
-    → (before ≡ false → Hears role None (begun, pending) (kept, rest)) → (after ≡ false → before ≡ false)
-    → (Lasts fate → after ≡ false → Hears role (word_in fate) (kept, rest) (later, left)) → after ≡ false
-    → Hears role None (begun, pending) (later, left)
-heard_so_far role begun pending kept rest later left fate before after is first opened next still =
-    let P : Fate → Type 0 = λ f. Hears role (word_in f) (begun, pending) (later, left) in
+pub heard_so_far : (role : Role) (awaited between later_awaited : Option (List ℕ)) (begun pending kept rest later left : List ℕ) (fate : Fate) (before after : Bool)
+    → fate ≡ GoesOn → (before ≡ false → Hears role None (awaited, begun, pending) (between, kept, rest)) → (after ≡ false → before ≡ false)
+    → (Lasts fate → after ≡ false → Hears role (word_in fate) (between, kept, rest) (later_awaited, later, left)) → after ≡ false
+    → Hears role None (awaited, begun, pending) (later_awaited, later, left)
+heard_so_far role awaited between later_awaited begun pending kept rest later left fate before after is first opened next still =
+    let P : Fate → Type 0 = λ f. Hears role (word_in f) (awaited, begun, pending) (later_awaited, later, left) in
     let lasts : Lasts fate = subst Lasts (sym is) tt in
-    subst P is (heard_on role begun pending kept rest later left fate before after first opened next lasts still)
+    subst P is (heard_on role awaited between later_awaited begun pending kept rest later left fate before after first opened next lasts still)

@@ -20,6 +20,17 @@ kept_front n k [] ys l = front_alone n k ys l
 kept_front zero k (x ∷ xs) ys l = refl
 kept_front (suc n) k (x ∷ xs) ys l = ap (λ rest. x ∷ rest) (kept_front n k xs ys (omega (arith, l)))
 
+-- what stands behind a front is kept as behind all of it, as far as that is no more
+pub kept_before : (n k : ℕ) (xs ys : List ℕ) → n ≤ k → take n (take k xs ++ ys) ≡ take n (xs ++ ys)
+kept_before zero k xs ys l = refl
+kept_before (suc n) zero xs ys l = absurd (omega (arith, l))
+kept_before (suc n) (suc k) [] ys l = refl
+kept_before (suc n) (suc k) (x ∷ xs) ys l = ap (λ rest. x ∷ rest) (kept_before n k xs ys (omega (arith, l)))
+
+-- a line that is no longer than a line may be is kept whole
+pub kept_whole : (line : List ℕ) → length line ≤ 128 → take 129 ([] ++ line) ≡ line
+kept_whole line short = take_all 129 line (omega (arith, short))
+
 -- a byte more of some others
 pub kept_next : (n i : ℕ) (first items now : List ℕ) → now ≡ take n (first ++ take i items) → i < length items
     → take n (now ++ get_or items i 0 ∷ []) ≡ take n (first ++ take (i + 1) items)

@@ -1,4 +1,5 @@
 pub mod Kept
 pub mod Crossing
 pub mod FirstWords
+pub mod Greeted
 pub mod Sent

@@ -1,5 +1,6 @@
 pub mod Backups
 pub mod Fates
+pub mod Greetings
 pub mod Lines
 pub mod Refused
 pub mod Sending

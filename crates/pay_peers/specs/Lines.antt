@@ -1,5 +1,5 @@
 -- The lines that are words of staff's own, and where the first of them stands in the bytes that come.
-use Rattle.std.specs.Prelude.{◌≡◌, ℕ, ◌==◌, ◌&&◌, nat_eq, nat_le, Bool, List, [], ◌∷◌, ◌++◌, length, take, drop, replicate, codes, Option, Some, None, Result, if◌then◌else◌, refl}
+use Rattle.std.specs.Prelude.{◌≡◌, ℕ, ◌≤◌, ◌==◌, ◌&&◌, nat_eq, nat_le, Bool, List, [], ◌∷◌, ◌++◌, length, take, drop, replicate, codes, Option, Some, None, Result, if◌then◌else◌, refl}
 use Rattle.std.specs.Char.{is_ascii_graphic}
 use Rattle.std.specs.List.{list_all, starts_with}
 use Rattle.std.specs.Str.{bytes_eq}
@@ -11,6 +11,7 @@ use Rattle.pay_session.specs.Words.{TakesPiece}
 use Rattle.pay_session.specs.declared.port.Port.{Port}
 use Rattle.pay_session.specs.declared.port.Role.{Role}
 use Rattle.pay_session.specs.declared.port.Role.TheVariants.{Taps, All}
+use Rattle.pay_peers.specs.Greetings.{Greets}
 use Rattle.pay_peers.specs.declared.word.Word.{Word}
 use Rattle.pay_peers.specs.declared.word.Word.TheVariants.{Stop, Stats, Backup}
 
@@ -34,6 +35,10 @@ abbrev pub word_at : Role → List ℕ → Option Word
 word_at Taps line = None
 word_at All line = if nat_le (length line) 128 then word_of line else None
 
+-- a line with which a connection may have to begin: not too long, and no word
+abbrev pub MayGreet : List ℕ → Type 0
+MayGreet line = (length line ≤ 128) × (word_at All line ≡ None)
+
 -- a word with what stands behind its line; where the line is none, what is found behind it
 abbrev pub found : Option Word → List ℕ → Option (Word × List ℕ) → Option (Word × List ℕ)
 found (Some word) behind later = Some (word, behind)
@@ -53,11 +58,12 @@ pub record IsTaken (role : Role) (begun piece : List ℕ) (word : Option Word) (
   pub found : (w : Word) → word ≡ Some w → first_word role begun front ≡ Some (w, [])
   pub goes_on : word ≡ None → (more : List ℕ) → first_word role begun (front ++ more) ≡ first_word role kept more
 
--- A connection at a port took a front of what was pending and of what came behind that. The pairs have the begun line and what is pending,
--- before and after.
-pub record Hears (role : Role) (word : Option Word) (before after : List ℕ × List ℕ) : Type 0 where
+-- A connection at a port took a front of what was pending and of what came behind that. Each state is the greeting that is awaited, the
+-- begun line, and what is pending.
+pub record Hears (role : Role) (word : Option Word) (before after : Option (List ℕ) × List ℕ × List ℕ) : Type 0 where
   pub came : List ℕ
-  pub taken : IsTaken role before.0 (before.1 ++ came) word after.0 after.1
+  pub taken : IsTaken role before.1 (before.2 ++ came) word after.1 after.2
+  pub greets : Greets (before.0, before.1) (before.2 ++ came) after
 
 -- The session answers a front of some bytes, as a piece, and nothing of what stands behind it: at a port, from before to after.
 module _ {D O T : Type 0} (parts : D → DeskParts O) (Closes : T → ℕ → ℕ → List Taken → Result (List Posting) Refusal → T → Type 0) (port : Port) where

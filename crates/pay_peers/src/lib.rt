@@ -7,6 +7,7 @@
 
 mod aside;
 mod fate;
+mod greeting;
 pub mod limits;
 mod peer;
 mod peers;

@@ -1,17 +1,21 @@
 //! A connection that is held.
 ghost use Rattle.std.specs.Prelude.{◌≡◌, ◌<◌, string_bytes, ◌++◌, ◌||◌, ℕ, Option, IsTrue, true, false, [], length, drop, OnOk, IfOk, OnSome, IfSome};
+ghost use Rattle.std.specs.Option.{is_some};
 ghost use Rattle.pay_session.specs.Requests.{has_newline};
+ghost use Rattle.pay_session.specs.declared.port.Role.{Role};
 ghost use Rattle.pay_session.specs.Words.{HasAnsweredAt, TakesPiece};
 ghost use Rattle.pay_session.specs.declared.port.Role.TheVariants as roles;
 ghost use Rattle.pay_peers.specs.Backups.{backup_reply};
 ghost use Rattle.pay_peers.specs.Fates.{word_in, Lasts};
-ghost use Rattle.pay_peers.specs.Lines.{IsTaken, Hears, AnswersFront};
+ghost use Rattle.pay_peers.specs.Greetings.{Greets, RefusesAlone, is_greeted, refusal_of};
+ghost use Rattle.pay_peers.specs.Lines.{IsTaken, Hears, AnswersFront, MayGreet};
 ghost use Rattle.pay_peers.specs.Refused.{NotesLine, noted};
 ghost use Rattle.pay_peers.specs.Strangers.{is_http, is_no_command, is_strange};
 ghost use Rattle.pay_peers.specs.declared.word.Word.{Word};
 
 use crate::aside::Aside;
 use crate::fate::{Fate, fate_of};
+use crate::greeting::{Greeting, refusal_of};
 use crate::limits::{LAST_READS, MOST_UNSENT, TURN_PIECES};
 use crate::refused::Refused;
 use crate::sending::{empty, send};
@@ -32,7 +36,9 @@ pub struct Peer {
     stream: TcpStream,
     seat: Seat,
     conversation: Conversation,
-    // What the conversation was given of a line that has not ended, as far as a line may go.
+    // The line with which it has to begin, as long as it has not, and if it has to.
+    awaited: Option<Greeting>,
+    // What was taken of a line that has not ended, as far as a line may go.
     begun: Line,
     /// Its lines that were refused, and are to be kept before their replies leave.
     pub refused: Refused,
@@ -116,8 +122,9 @@ fn backup_reply(alloc: Global, copied: Option<u64>) -> Result<String, AllocError
 }
 
 impl Peer {
-    /// A connection on which nothing was read or written.
-    pub fn new(alloc: Global, stream: TcpStream, seat: Seat) -> Peer
+    /// A connection on which nothing was read or written, and what it has to begin with, if it has to.
+    pub fn new(alloc: Global, stream: TcpStream, seat: Seat, greeting: Option<Greeting>) -> Peer
+        ensures awaited { result.awaited ≡ greeting }
         ensures begun { result.begun ≡ [] }
         ensures pending { result.pending.items ≡ [] }
     {
@@ -125,6 +132,7 @@ impl Peer {
             stream,
             seat,
             conversation: Conversation::new(),
+            awaited: greeting,
             begun: Line::new(),
             refused: Refused::new(alloc),
             unsent: Vec::new(alloc),
@@ -143,6 +151,7 @@ impl Peer {
         ensures begun { self.new.begun ≡ self.old.begun }
         ensures pending { self.new.pending.items ≡ self.old.pending.items }
         ensures over { self.new.over ≡ self.old.over }
+        ensures awaited { self.new.awaited ≡ self.old.awaited }
         ensures no_word { (word : Word) → result ≡ Fate.Asks word → ⊥ }
     {
         send(&mut &self.stream, &mut self.unsent, &mut self.sent)
@@ -179,6 +188,7 @@ impl Peer {
         ensures conversation { self.new.conversation ≡ self.old.conversation }
         ensures unsent { self.new.unsent.items ≡ self.old.unsent.items }
         ensures over { self.new.over ≡ (self.old.over || is_strange self.old.known self.old.begun (drop before self.old.unsent.items)) }
+        ensures awaited { self.new.awaited ≡ self.old.awaited }
         ensures instant { self.new.refused.instant ≡ self.old.refused.instant }
         ensures noted { OnOk result (self.new.refused.lines.items
             ≡ self.old.refused.lines.items ++ noted self.old.refused.instant (drop before self.old.unsent.items) self.old.begun) }
@@ -191,6 +201,75 @@ impl Peer {
         self.refused
             .note(reply, line)
             .map_err(|_| WriteFault::Failed(ErrorKind::OutOfMemory))
+    }
+
+    /// Refuses the begun line, which is not the one that is awaited. No more lines are taken.
+    fn refuse(&mut self) -> Result<(), WriteFault>
+        ensures awaited { self.new.awaited ≡ self.old.awaited }
+        ensures pending { self.new.pending.items ≡ self.old.pending.items }
+        ensures over { self.new.over ≡ true }
+        ensures refused { OnOk result (self.new.unsent.items ≡ self.old.unsent.items ++ refusal_of self.old.begun) }
+        ensures noted { OnOk result (self.new.refused.lines.items
+            ≡ self.old.refused.lines.items ++ noted self.old.refused.instant (drop (length self.old.unsent.items) self.new.unsent.items) self.old.begun) }
+    {
+        self.over = true;
+        let before = self.unsent.len();
+        self.unsent
+            .extend_from_slice(refusal_of(self.begun.text()))
+            .map_err(|_| WriteFault::Failed(ErrorKind::OutOfMemory))?;
+        self.note_reply(before)
+    }
+
+    /// Whether it has to begin with a line, and did not yet.
+    fn awaits(&self) -> bool
+        ensures value { result ≡ is_some self.now.awaited }
+        ensures line { IfSome self.now.awaited MayGreet }
+    {
+        match &self.awaited {
+            Some(greeting) => {
+                greeting.text();
+                true
+            }
+            None => false,
+        }
+    }
+
+    /// Whether the begun line is the one that is awaited.
+    fn is_awaited(&self) -> bool
+        ensures { IsTrue result → self.now.awaited ≡ Some self.now.begun }
+    {
+        match &self.awaited {
+            Some(greeting) => greeting.text() == self.begun.text(),
+            None => false,
+        }
+    }
+
+    /// Takes what a piece has of the line that is awaited, and says what stands behind that: all of it where none is.
+    fn greet<'v>(&mut self, piece: &'v [u8]) -> Result<&'v [u8], WriteFault>
+        ensures pending { self.new.pending.items ≡ self.old.pending.items }
+        ensures over { self.new.over ≡ false → self.old.over ≡ false }
+        ensures awaited { is_some self.new.awaited ≡ true → self.new.awaited ≡ self.old.awaited }
+        ensures greeted { self.new.awaited ≡ None → is_greeted self.old.awaited (self.old.begun ++ piece.now) ≡ true }
+        ensures taken { IfOk result (λ behind. self.new.over ≡ false → (role : Role) → IsTaken role self.old.begun piece.now None self.new.begun behind.now) }
+        ensures greets { IfOk result (λ behind. self.new.over ≡ false → Greets (self.old.awaited, self.old.begun) piece.now (self.new.awaited, self.new.begun, behind.now)) }
+        ensures all { IfOk result (λ behind. is_some self.new.awaited ≡ true → self.new.over ≡ false → behind.now ≡ []) }
+        ensures alone { OnOk result (self.old.over ≡ false → RefusesAlone self.new.over self.old.unsent.items self.new.unsent.items) }
+    {
+        if !self.awaits() {
+            return Ok(piece);
+        }
+        let Some((text, behind)) = cut(piece) else {
+            self.begun.extend(piece);
+            return Ok(&piece[piece.len()..]);
+        };
+        self.begun.extend(text);
+        if !self.is_awaited() {
+            self.refuse()?;
+            return Ok(behind);
+        }
+        self.awaited = None;
+        self.begun.clear();
+        Ok(behind)
     }
 
     /// Has the conversation take a line, or a part of one, and answer it.
@@ -206,6 +285,7 @@ impl Peer {
         ensures begun { self.new.begun ≡ self.old.begun }
         ensures pending { self.new.pending.items ≡ self.old.pending.items }
         ensures over { self.new.over ≡ false → self.old.over ≡ false }
+        ensures awaited { self.new.awaited ≡ self.old.awaited }
         ensures answered { OnOk result (self.new.over ≡ false → TakesPiece D.parts T.Closes port.entry part.now
             (desk.old, till.old, self.old.conversation, Some self.old.unsent.items) (desk.new, till.new, self.new.conversation, Some self.new.unsent.items)) }
         ensures instant { self.new.refused.instant ≡ self.old.refused.instant }
@@ -236,6 +316,7 @@ impl Peer {
         ensures answered { IfOk result (λ taken. taken.0 ≡ None → self.new.over ≡ false → AnswersFront D.parts T.Closes port.entry bytes.now taken.1.now
             (desk.old, till.old, self.old.conversation, Some self.old.unsent.items) (desk.new, till.new, self.new.conversation, Some self.new.unsent.items)) }
         ensures over { self.new.over ≡ false → self.old.over ≡ false }
+        ensures awaited { self.new.awaited ≡ self.old.awaited }
         ensures anew { IfOk result (λ taken. IfSome taken.0 (λ _. self.new.conversation ≡ [])) }
         ensures untouched { IfOk result (λ taken. IfSome taken.0 (λ _. (desk.new ≡ desk.old) × (till.new ≡ till.old) × (self.new.unsent.items ≡ self.old.unsent.items))) }
         ensures shorter { IfOk result (λ taken. 0 < length bytes.now → length taken.1.now < length bytes.now) }
@@ -274,6 +355,7 @@ impl Peer {
     fn keep(&mut self, bytes: &[u8]) -> Result<(), WriteFault>
         ensures begun { self.new.begun ≡ self.old.begun }
         ensures over { self.new.over ≡ self.old.over }
+        ensures awaited { self.new.awaited ≡ self.old.awaited }
         ensures pending { OnOk result (self.old.over ≡ false → self.new.pending.items ≡ self.old.pending.items ++ bytes.now) }
     {
         if self.over {
@@ -297,6 +379,7 @@ impl Peer {
         ensures same_till { T.origin till.new ≡ T.origin till.old }
         ensures staff { IfOk result (λ word. IfSome word (λ _. port.entry.role ≡ roles.All)) }
         ensures over { self.new.over ≡ false → self.old.over ≡ false }
+        ensures awaited { self.new.awaited ≡ self.old.awaited }
         ensures taken { IfOk result (λ word. self.new.over ≡ false → IsTaken port.entry.role self.old.begun piece.now word self.new.begun self.new.pending.items) }
     {
         pay_session::laws::piece_by_piece::<D, T>();
@@ -313,6 +396,34 @@ impl Peer {
         Ok(None)
     }
 
+    /// Takes a piece: what it has of the line that is awaited, if one is, and the lines behind that. Until that line has come, no other is
+    /// answered.
+    fn take_piece<D: Desk, T: Till>(
+        &mut self,
+        piece: &[u8],
+        port: Port<'_>,
+        desk: &mut D,
+        till: &mut T,
+    ) -> Result<Option<Word>, WriteFault>
+        requires { self.old.pending.items ≡ [] }
+        ensures served { HasAnsweredAt D.parts T.Closes (port.entry.zone.now, port.entry.role) (desk.old, till.old) (desk.new, till.new) }
+        ensures same_till { T.origin till.new ≡ T.origin till.old }
+        ensures staff { IfOk result (λ word. IfSome word (λ _. port.entry.role ≡ roles.All)) }
+        ensures over { self.new.over ≡ false → self.old.over ≡ false }
+        ensures taken { IfOk result (λ word. self.new.over ≡ false → IsTaken port.entry.role self.old.begun piece.now word self.new.begun self.new.pending.items) }
+        ensures greets { IfOk result (λ _. self.new.over ≡ false → Greets (self.old.awaited, self.old.begun) piece.now (self.new.awaited, self.new.begun, self.new.pending.items)) }
+        ensures quiet { is_some self.new.awaited ≡ true → (self.new.awaited ≡ self.old.awaited) × (desk.new ≡ desk.old) × (till.new ≡ till.old) × IfOk result (λ word. word ≡ None) }
+        ensures greeted { self.new.awaited ≡ None → is_greeted self.old.awaited (self.old.begun ++ piece.now) ≡ true }
+        ensures alone { is_some self.new.awaited ≡ true → OnOk result (self.old.over ≡ false → RefusesAlone self.new.over self.old.unsent.items self.new.unsent.items) }
+    {
+        pay_session::laws::piece_by_piece::<D, T>();
+        let rest = self.greet(piece)?;
+        if self.awaited.is_some() {
+            return Ok(None);
+        }
+        self.take_lines(rest, port, desk, till)
+    }
+
     /// Answers what no newline ended, once the peer sends no more.
     fn end<D: Desk, T: Till>(
         &mut self,
@@ -323,8 +434,14 @@ impl Peer {
         ensures served { HasAnsweredAt D.parts T.Closes (port.entry.zone.now, port.entry.role) (desk.old, till.old) (desk.new, till.new) }
         ensures same_till { T.origin till.new ≡ T.origin till.old }
         ensures over { self.new.over ≡ true }
+        ensures awaited { self.new.awaited ≡ self.old.awaited }
+        ensures quiet { is_some self.new.awaited ≡ true → (desk.new ≡ desk.old) × (till.new ≡ till.old) }
     {
+        pay_session::laws::piece_by_piece::<D, T>();
         self.over = true;
+        if self.awaited.is_some() {
+            return Ok(());
+        }
         let before = self.unsent.len();
         self.conversation.end(&mut self.unsent, port, desk, till)?;
         self.note_reply(before)
@@ -344,9 +461,11 @@ impl Peer {
         ensures staff { IfOk result (λ word. IfSome word (λ _. port.entry.role ≡ roles.All)) }
         ensures over { self.new.over ≡ false → self.old.over ≡ false }
         ensures taken { IfOk result (λ word. self.new.over ≡ false → IsTaken port.entry.role self.old.begun piece.now word self.new.begun self.new.pending.items) }
+        ensures greets { IfOk result (λ _. self.new.over ≡ false → Greets (self.old.awaited, self.old.begun) piece.now (self.new.awaited, self.new.begun, self.new.pending.items)) }
+        ensures quiet { is_some self.new.awaited ≡ true → (self.new.awaited ≡ self.old.awaited) × (desk.new ≡ desk.old) × (till.new ≡ till.old) × IfOk result (λ word. word ≡ None) }
     {
         if !piece.is_empty() {
-            return self.take_lines(piece, port, desk, till);
+            return self.take_piece(piece, port, desk, till);
         }
         self.end(port, desk, till)?;
         Ok(None)
@@ -365,7 +484,8 @@ impl Peer {
         ensures same_till { T.origin till.new ≡ T.origin till.old }
         ensures staff { (word : Word) → result ≡ Fate.Asks word → port.entry.role ≡ roles.All }
         ensures over { self.new.over ≡ false → self.old.over ≡ false }
-        ensures heard { Lasts result → self.new.over ≡ false → Hears port.entry.role (word_in result) (self.old.begun, self.old.pending.items) (self.new.begun, self.new.pending.items) }
+        ensures heard { Lasts result → self.new.over ≡ false → Hears port.entry.role (word_in result) (self.old.awaited, self.old.begun, self.old.pending.items) (self.new.awaited, self.new.begun, self.new.pending.items) }
+        ensures quiet { is_some self.new.awaited ≡ true → (self.new.awaited ≡ self.old.awaited) × (desk.new ≡ desk.old) × (till.new ≡ till.old) × (word_in result ≡ None) }
     {
         pay_session::laws::piece_by_piece::<D, T>();
         let count = match (&self.stream).read(buffer) {
@@ -389,6 +509,9 @@ impl Peer {
         ensures over { self.new.over ≡ false → self.old.over ≡ false }
         ensures taken { Lasts result → self.new.over ≡ false
             → IsTaken port.entry.role self.old.begun self.old.pending.items (word_in result) self.new.begun self.new.pending.items }
+        ensures greets { Lasts result → self.new.over ≡ false
+            → Greets (self.old.awaited, self.old.begun) self.old.pending.items (self.new.awaited, self.new.begun, self.new.pending.items) }
+        ensures quiet { is_some self.new.awaited ≡ true → (self.new.awaited ≡ self.old.awaited) × (desk.new ≡ desk.old) × (till.new ≡ till.old) × (word_in result ≡ None) }
     {
         pay_session::laws::piece_by_piece::<D, T>();
         let count = self.pending.len();
@@ -397,7 +520,7 @@ impl Peer {
         };
         room.copy_from_slice(&self.pending);
         empty(&mut self.pending);
-        fate_after(self.take_lines(room, port, desk, till))
+        fate_after(self.take_piece(room, port, desk, till))
     }
 
     /// Says that no more comes, and takes what the peer still sends: bytes that nobody has taken when a stream is dropped make the system
@@ -406,6 +529,7 @@ impl Peer {
         ensures begun { self.new.begun ≡ self.old.begun }
         ensures pending { self.new.pending.items ≡ self.old.pending.items }
         ensures over { self.new.over ≡ self.old.over }
+        ensures awaited { self.new.awaited ≡ self.old.awaited }
         ensures no_word { (word : Word) → result ≡ Fate.Asks word → ⊥ }
     {
         if !self.told {
@@ -451,7 +575,8 @@ impl Peer {
         ensures same_till { T.origin till.new ≡ T.origin till.old }
         ensures staff { (word : Word) → result ≡ Fate.Asks word → port.entry.role ≡ roles.All }
         ensures over { self.new.over ≡ false → self.old.over ≡ false }
-        ensures heard { Lasts result → self.new.over ≡ false → Hears port.entry.role (word_in result) (self.old.begun, self.old.pending.items) (self.new.begun, self.new.pending.items) }
+        ensures heard { Lasts result → self.new.over ≡ false → Hears port.entry.role (word_in result) (self.old.awaited, self.old.begun, self.old.pending.items) (self.new.awaited, self.new.begun, self.new.pending.items) }
+        ensures quiet { is_some self.new.awaited ≡ true → (self.new.awaited ≡ self.old.awaited) × (desk.new ≡ desk.old) × (till.new ≡ till.old) × (word_in result ≡ None) }
     {
         pay_session::laws::piece_by_piece::<D, T>();
         match self.send() {
@@ -483,7 +608,8 @@ impl Peer {
         ensures same_till { T.origin till.new ≡ T.origin till.old }
         ensures staff { (word : Word) → result ≡ Fate.Asks word → port.entry.role ≡ roles.All }
         ensures over { self.new.over ≡ false → self.old.over ≡ false }
-        ensures heard { Lasts result → self.new.over ≡ false → Hears port.entry.role (word_in result) (self.old.begun, self.old.pending.items) (self.new.begun, self.new.pending.items) }
+        ensures heard { Lasts result → self.new.over ≡ false → Hears port.entry.role (word_in result) (self.old.awaited, self.old.begun, self.old.pending.items) (self.new.awaited, self.new.begun, self.new.pending.items) }
+        ensures quiet { is_some self.new.awaited ≡ true → (self.new.awaited ≡ self.old.awaited) × (desk.new ≡ desk.old) × (till.new ≡ till.old) × (word_in result ≡ None) }
     {
         pay_session::laws::piece_by_piece::<D, T>();
         for _ in 0..TURN_PIECES {

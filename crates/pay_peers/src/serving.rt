@@ -14,7 +14,7 @@ use crate::peers::Peers;
 use crate::ports::Ports;
 use crate::refused::Refused;
 use crate::sending::empty;
-use crate::shared::Shared;
+use crate::shared::{Shared, same};
 use crate::tally::Seat;
 use crate::word::Word;
 use mio::net::{TcpListener, TcpStream};
@@ -144,7 +144,9 @@ impl<C: Clock, A: Aside> Serving<C, A> {
         let _ = stream.set_nodelay(true);
         let mut stream = stream;
         register(&self.poll, &mut stream, self.peers.next_place()).ok()?;
-        self.peers.hold(Peer::new(self.alloc, stream, seat))
+        let greeting = same(&self.shared.greeting);
+        self.peers
+            .hold(Peer::new(self.alloc, stream, seat, greeting))
     }
 
     /// Holds the connections that wait, as far as they come, and drops those for which there is no room.

@@ -49,7 +49,7 @@ fn backup_of(line: &[u8]) -> Option<Word>
 }
 
 /// The word that a line is at a port. As in a session every byte counts, a carriage return too.
-fn word_at(role: Role, line: &[u8]) -> Option<Word>
+pub fn word_at(role: Role, line: &[u8]) -> Option<Word>
     ensures word { result ≡ word_at role line.now }
     ensures staff { IfSome result (λ _. role ≡ Role.All) }
 {

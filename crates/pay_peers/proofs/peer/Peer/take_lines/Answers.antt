@@ -27,4 +27,5 @@ lines-preserved g c =
       c.in_ok-word.ensures.pending ∙ so_far.2,
       subst P (sym none) (taken_then c.args.port.role c.args.self.now.begun c.args.piece.now c.lines.self.begun c.lines.rest.now _ _ c.in_ok-word.word so_far.3 step),
       λ open_still. so_far.4 (c.in_ok-word.ensures.over open_still),
+      c.in_ok-word.ensures.awaited ∙ so_far.5,
     )

@@ -10,6 +10,7 @@ invariant-lines g l =
     × (l.self.pending.items ≡ [])
     × IsTaken l.port.role l.initial.self.begun l.initial.rest None l.self.begun l.rest
     × (l.self.over ≡ false → l.initial.self.over ≡ false)
+    × (l.self.awaited ≡ l.initial.self.awaited)
 
 -- each turn takes a byte at least
 abbrev pub decreases-lines : goal.decreases-lines
