@@ -40,7 +40,7 @@ def staying(program, folder):
         f"--control={port + 1}", f"--journal={journals}", f"--ledger={os.path.join(folder, 'ledger.db')}",
     ]
     with subprocess.Popen(words, stdin=subprocess.DEVNULL, stderr=subprocess.PIPE) as process:
-        if not any(process.stderr.readline().startswith(b"farebox: listening") for _ in range(2)):
+        if not any(process.stderr.readline().startswith(b"farebox: listening") for _ in range(3)):
             sys.exit("stays: the service does not listen")
         try:
             yield port, port + 1, process

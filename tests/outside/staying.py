@@ -51,7 +51,7 @@ from staying_world import World, compare
 from support import running
 from support.repository import SAMPLE, build
 from support.serving import free_ports
-from support.staying import both_listening, staying, staying_words
+from support.staying import both_listening, but_for_log, staying, staying_words
 
 
 class Plan(NamedTuple):
@@ -96,7 +96,7 @@ def killed_at_its_start(world, plan):
         is_over = ran.poll() is not None
         ran.kill()
         said = ran.stderr.read()
-        if is_over or not both_listening(port, port + 1).startswith(said):
+        if is_over or not both_listening(port, port + 1).startswith(but_for_log(said)):
             raise Fault(f"a start ended by itself: {is_over}, and said {said!r}")
     world.count["ended by START"] += 1
 
@@ -109,7 +109,7 @@ def serve(world, plan):
     how = running.limited_to(resource.RLIM_INFINITY)
     began = time.monotonic()
     with staying(world.journals, world.ledger, plan.lanes, plan.shards, fares=SAMPLE, **how) as service:
-        if service.said != both_listening(service.port, service.control):
+        if but_for_log(service.said) != both_listening(service.port, service.control):
             raise Fault(f"the service said {service.said + service.ran.stderr.read()!r}")
         started_after = time.monotonic() - began
         it = Serve(world, plan, service)

@@ -13,6 +13,7 @@ from soak_lines import WEEK_DAYS, question
 from soak_services import status_bytes
 from staying_world import Known
 from support.serving import break_off, connected
+from support.staying import but_for_log
 
 # After how many seconds a reply does not come, and a service does not end.
 SILENCE, TO_END = 30, 12
@@ -389,7 +390,7 @@ class Serve:
         for it in self.strangers:
             it.close()
         self.selector.close()
-        status, said = self.process.returncode, self.process.stderr.read().decode()
+        status, said = self.process.returncode, but_for_log(self.process.stderr.read()).decode()
         if self.plan.end == "STOP":
             is_right = status == 0 and not said and self.stopped == [b"BYE\n"]
         elif self.plan.end == "KILL":

@@ -5,6 +5,9 @@ import os
 import subprocess
 import sys
 
+# Also where a service manager runs the tests, lines of the program's log begin with no level.
+os.environ.pop("JOURNAL_STREAM", None)
+
 # The root of the repository.
 ROOT = os.path.dirname(os.path.dirname(os.path.dirname(os.path.realpath(__file__))))
 PROGRAM = f"{ROOT}/crates/farebox/out/farebox"

@@ -13,7 +13,7 @@ import time
 from support.journals import new_folder, with_both
 from support.repository import LONDON, PROGRAM, ROOT, RUN_SAMPLE
 from support.running import MISSING, RUN, TIME_TO_END, TIME_TO_REPLY, End, answers, bytes_of, in_lines, run, written
-from support.serving import HOST, boarding, ended, free_ports, paid, talk
+from support.serving import HOST, boarding, free_ports, paid, talk
 from support.staying import both_listening, staying
 from support.theme import Theme
 
@@ -354,14 +354,15 @@ class Service(Theme):
                 came = run(["audit", *RUN[1:], *with_both(f"{path}/taps", f"{path}/ledger.db")])
                 self.check("its audit", came, answers(b""))
             came = ran([STAFF, "STATS"], **control)
-            counts = came.output.decode().partition(" connections=")[2]
+            counts, _, files = came.output.decode().partition(" connections=")[2].partition(" journal_bytes=")
             # The three lines of the reader, the CLOSE and the QUIT of each close, and the QUIT of each backup; the
             # connection of STATS is open.
             wanted = "1 connections_in_all=7 dropped=0 lines=11 accepted=2 again=0 taps=2 corrections=0"
-            self.check("what is counted", answers(counts[:len(wanted)].encode()), answers(wanted.encode()))
+            self.check("what is counted", answers(counts.encode()), answers(wanted.encode()))
+            self.check("the last close", " close_day=19730 close_postings=0 close_seconds=" in files, True)
             self.check("a stop", ran([STAFF, "STOP"], **control), answers(b"BYE\n"))
             wanted = End(0, b"", both_listening(service.port, service.control))
-            self.check("how it ends", ended(service.ran, service.said), wanted)
+            self.check("how it ends", service.ended(), wanted)
 
 
 class Lines(Theme):
@@ -396,3 +397,15 @@ class Lines(Theme):
                 lines = ["#CONTROL=1", "PORT=2", given.format(staff.port), "LANES=2"]
                 came = ran([STAFF, "STATS"], FAREBOX_CONF=written(self.folder, "farebox.conf", in_lines(lines)))
             self.check(f"by the line {given}", came, answers(b"BYE\n"))
+
+    def test_greeting(self):
+        """A greeting of the settings or of the environment is sent first."""
+        for given, told, sent in (
+            ("#GREETING=a", {}, b""), ("GREETING=", {}, b""), ("GREETING=open sesame", {}, b"open sesame\n"),
+            ('GREETING="open sesame"', {}, b"open sesame\n"), ("GREETING=a", {"GREETING": "b c"}, b"b c\n"),
+        ):
+            with Staff([b"BYE\n"]) as staff:
+                path = written(self.folder, "farebox.conf", in_lines([f"CONTROL={staff.port}", given]))
+                came = ran([STAFF, "STATS"], FAREBOX_CONF=path, **told)
+            self.check(f"by the line {given}", came, answers(b"BYE\n"))
+            self.check("what is sent by it", answers(b"".join(staff.heard)), answers(sent + b"STATS\nQUIT\n"))

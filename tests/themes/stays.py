@@ -15,7 +15,7 @@ from support.running import (
     MISSING, MONDAY, RUN, SEVEN, answers, bytes_of, fault, heard, limited_to, run, written,
 )
 from support.serving import (
-    boarding, break_off, come_and_go, connected, ended, is_free, paid, rest_of, side_by_side, talk, talk_ahead,
+    boarding, break_off, come_and_go, connected, is_free, paid, rest_of, side_by_side, talk, talk_ahead,
 )
 from support.staying import asked, both_listening, line_heard, staying, staying_words
 from support.theme import Theme
@@ -359,7 +359,7 @@ class Stays(Theme):
                 errors=both_listening(service.port, service.control)
                 + f"farebox: cannot keep lines in {path}\n".encode() + wanted.errors
             )
-            self.check("how it ends", ended(service.ran, service.said), wanted)
+            self.check("how it ends", service.ended(), wanted)
             self.check_is("whether it ended within three seconds", time.monotonic() - begun < 3)
         with staying(journals, ledger) as service:
             with connected(service.port) as reader:
@@ -676,7 +676,7 @@ class Stays(Theme):
             with connected(service.control) as staff:
                 staff.sendall(f"BACKUP {path}\n".encode())
                 self.check_is("whether there is no reply", hears_nothing_more(staff))
-            self.check("how it ends", ended(service.ran, service.said).status, -signal.SIGXFSZ)
+            self.check("how it ends", service.ended().status, -signal.SIGXFSZ)
         self.check("how much is there", os.path.getsize(path), size)
         self.check("its audit", run(["audit", *RUN[1:], *with_both(journals, path)]), fault("40 NotALedger"))
         with staying(journals, ledger) as service:

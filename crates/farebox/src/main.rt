@@ -5,13 +5,14 @@ mod program;
 mod serve;
 mod stay;
 
+use pay_log::{Level, Log};
 use std::process::ExitCode;
 
 fn main(rt: HostRuntime) -> ExitCode {
     match program::execute(rt) {
         Ok(status) => status,
         Err(fault) => {
-            let _ = eprintln!(rt; "{fault}");
+            rt.say(Level::Error, fault);
             ExitCode::from(fault.status())
         }
     }

@@ -8,10 +8,10 @@ use pay_files::{
     write_statement,
 };
 use pay_jobs::{Alter, Fault, Ledger};
+use pay_log::Log;
 use pay_words::{Job, WordsFault, read_words};
 use std::alloc::{AllocError, Global};
 use std::fs::File;
-use std::io::Eprint;
 use std::net::{Net, TcpListener, TcpStream};
 use std::process::ExitCode;
 use std::rt::{Clock, Env, Files};
@@ -36,13 +36,12 @@ where
     R: Net<Listener = TcpListener, Stream = TcpStream>
         + Threads
         + Wait
-        + Env
         + Files<File = File>
         + Ledgers<InFile = Ledger<S>>
         + Clock
         + Input
         + Print
-        + Eprint
+        + Log
         + AllocGlobal
         + Copy
         + Send
@@ -73,13 +72,12 @@ where
     R: Net<Listener = TcpListener, Stream = TcpStream>
         + Threads
         + Wait
-        + Env
         + Files<File = File>
         + Ledgers<InFile = Ledger<S>>
         + Clock
         + Input
         + Print
-        + Eprint
+        + Log
         + AllocGlobal
         + Copy
         + Send
@@ -104,13 +102,12 @@ where
     R: Net<Listener = TcpListener, Stream = TcpStream>
         + Threads
         + Wait
-        + Env
         + Files<File = File>
         + Ledgers<InFile = Ledger<S>>
         + Clock
         + Input
         + Print
-        + Eprint
+        + Log
         + AllocGlobal
         + Copy
         + Send

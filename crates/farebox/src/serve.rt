@@ -11,13 +11,13 @@ use pay_jobs::{
     Alter, FaresAndZone, Fault, Keeper, Ledger, NoKeeper, NoWatch, Watch, begin_service,
     compare_texts,
 };
+use pay_log::Log;
 use pay_serve_job::{Given, Plan, serve, serve_without_ledger, take_given};
 use pay_wire::Refusal;
 use pay_words::ServeWords;
 use std::alloc::{AllocError, Global};
 use std::fs::File;
 use std::io;
-use std::io::Eprint;
 use std::net::{Net, TcpListener, TcpStream};
 use std::process::ExitCode;
 use std::rt::{Clock, Files};
@@ -34,7 +34,7 @@ where
         + Ledgers<InFile = Ledger<S>>
         + Clock
         + Print
-        + Eprint
+        + Log
         + AllocGlobal
         + Copy
         + Send
@@ -86,7 +86,7 @@ where
         + Ledgers<InFile = Ledger<S>>
         + Clock
         + Print
-        + Eprint
+        + Log
         + AllocGlobal
         + Copy
         + Send
@@ -127,7 +127,7 @@ where
         + Ledgers<InFile = Ledger<S>>
         + Clock
         + Print
-        + Eprint
+        + Log
         + AllocGlobal
         + Copy
         + Send
@@ -181,7 +181,7 @@ where
         + Ledgers<InFile = Ledger<S>>
         + Clock
         + Print
-        + Eprint
+        + Log
         + AllocGlobal
         + Copy
         + Send
@@ -242,7 +242,7 @@ where
         + Ledgers<InFile = Ledger<S>>
         + Clock
         + Print
-        + Eprint
+        + Log
         + AllocGlobal
         + Copy
         + Send
@@ -252,7 +252,7 @@ where
     requires keepers { length given.keepers.items ≡ given.plan.shards }
 {
     ready_ledger(&rt, path)?;
-    let watch = CloseWatch::begin(rt, words.zone, words.early, noted)?;
+    let watch = CloseWatch::begin(rt, words.zone, words.early, noted, None)?;
     let mut ledger = rt.ledger(path)?;
     let closed = serve_watched(rt, given, &mut ledger, watch, kept);
     rt.close(ledger);
@@ -275,7 +275,7 @@ where
         + Files<File = File>
         + Clock
         + Print
-        + Eprint
+        + Log
         + AllocGlobal
         + Copy
         + Send
@@ -293,7 +293,7 @@ where
 }
 
 /// Keeps beside the journals of a service what is not kept there yet, once a ledger agrees with them.
-pub(crate) fn keep_once_taken<R: Files<File = File> + Eprint + AllocGlobal, K, S: Alter>(
+pub(crate) fn keep_once_taken<R: Files<File = File> + Log + AllocGlobal, K, S: Alter>(
     rt: &R,
     given: &Given<'_, K>,
     ledger: &mut Ledger<S>,
@@ -321,7 +321,7 @@ where
         + Files<File = File>
         + Clock
         + Print
-        + Eprint
+        + Log
         + AllocGlobal
         + Copy
         + Send
@@ -350,7 +350,7 @@ where
         + Files<File = File>
         + Clock
         + Print
-        + Eprint
+        + Log
         + AllocGlobal
         + Copy
         + Send
@@ -363,7 +363,7 @@ where
 }
 
 /// Reports the line of a journal in a folder that is not accepted, by the path of its file.
-pub(crate) fn report_in<R: Eprint + AllocGlobal>(
+pub(crate) fn report_in<R: Log + AllocGlobal>(
     rt: &R,
     folder: &str,
     journal: u64,

@@ -4,20 +4,21 @@ ghost use Rattle.pay_words.specs.declared.limits.TheConstants.{MOST_SHARDS};
 
 use crate::serve::{compare_beside, keep_once_taken, report_in};
 use pay_files::{
-    CloseWatch, JournalFiles, KeptFares, LaneFiles, Ledgers, StaffFiles, fares_text, memory_or,
-    noted_in, open_journals, print_warnings, ready_ledger, settle_journals,
+    CloseWatch, JournalFiles, KeptFares, LaneFiles, LastClose, Ledgers, StaffFiles, Start,
+    fares_text, memory_or, noted_in, open_journals, print_warnings, ready_ledger, settle_journals,
 };
 use pay_jobs::{Alter, FaresAndZone, Fault, Keeper, Ledger};
+use pay_log::{Level, Log};
 use pay_serve_job::{Aside, Given, Plan, Staying, stay};
 use pay_words::StayWords;
 use std::fs::File;
-use std::io::Eprint;
 use std::net::{Net, TcpListener, TcpStream};
 use std::process::ExitCode;
 use std::rt::{Clock, Files};
 use std::sync::atomic::AtomicBool;
 use std::sync::{Arc, Wait};
 use std::thread::Threads;
+use std::time::Instant;
 
 /// Serves everybody at one port and staff at another, until staff ask for the service to stop, or a line cannot be kept.
 pub fn stay_on<R, S: Alter + Drop>(rt: R, words: &StayWords<'_>) -> Result<ExitCode, Fault>
@@ -28,13 +29,14 @@ where
         + Files<File = File>
         + Ledgers<InFile = Ledger<S>>
         + Clock
-        + Eprint
+        + Log
         + AllocGlobal
         + Copy
         + Send
         + 'static,
     requires few { words.now.shards ≤ MOST_SHARDS }
 {
+    let began = Instant::now(&rt).ok();
     let fares = fares_text(&rt, words.fares)?;
     print_warnings(&rt, fares.as_str())?;
     let journals = open_journals(&rt, words.journal, words.shards)?;
@@ -42,12 +44,34 @@ where
         Ok(aside) => aside,
         Err(_) => return Ok(report_refused(&rt, words)),
     };
-    let staff_aside = match StaffFiles::beside(&aside, words.ledger, words.journal) {
+    let start = Start {
+        began,
+        lines: journals.lines(),
+    };
+    let closed = LastClose::new(rt.alloc())?;
+    let staff_aside = match StaffFiles::beside(
+        &aside,
+        words.ledger,
+        words.journal,
+        start,
+        &closed,
+    ) {
         Ok(aside) => aside,
         Err(error) => return Err(memory_or(&error, Fault::CannotListen)),
     };
-    match stay_beside(rt, words, fares.as_str(), journals, aside, staff_aside) {
-        Ok(()) => Ok(ExitCode::SUCCESS),
+    match stay_beside(
+        rt,
+        words,
+        fares.as_str(),
+        journals,
+        closed,
+        aside,
+        staff_aside,
+    ) {
+        Ok(()) => {
+            rt.say(Level::Information, "farebox: stopped");
+            Ok(ExitCode::SUCCESS)
+        }
         Err(Fault::JournalLineOf { journal, line, why }) => {
             report_in(&rt, words.journal, journal, line, why)
         }
@@ -56,9 +80,12 @@ where
 }
 
 /// Reports that the file of refused lines cannot be used.
-fn report_refused<R: Eprint>(rt: &R, words: &StayWords<'_>) -> ExitCode {
+fn report_refused<R: Log>(rt: &R, words: &StayWords<'_>) -> ExitCode {
     let path = words.refused.unwrap_or("");
-    let _ = eprintln!(rt; "farebox: cannot keep refused lines in {path}");
+    rt.say(
+        Level::Error,
+        format_args!("farebox: cannot keep refused lines in {path}"),
+    );
     ExitCode::FAILURE
 }
 
@@ -96,6 +123,7 @@ fn stay_beside<R, S: Alter + Drop, A, B>(
     words: &StayWords<'_>,
     fares: &str,
     journals: JournalFiles<R>,
+    closed: LastClose,
     aside: A,
     staff_aside: B,
 ) -> Result<(), Fault>
@@ -106,7 +134,7 @@ where
         + Files<File = File>
         + Ledgers<InFile = Ledger<S>>
         + Clock
-        + Eprint
+        + Log
         + AllocGlobal
         + Copy
         + Send
@@ -137,7 +165,7 @@ where
         texts: texts.as_slice(),
         keepers,
     };
-    stay_in_file(rt, words, given, &failed, &kept, aside, staff_aside)?;
+    stay_in_file(rt, words, given, &failed, &kept, closed, aside, staff_aside)?;
     settle_journals(&rt, words.journal, words.shards)
 }
 
@@ -148,6 +176,7 @@ fn stay_in_file<R, K, S: Alter + Drop, A, B>(
     given: Given<'_, K>,
     failed: &Arc<AtomicBool>,
     kept: &KeptFares,
+    closed: LastClose,
     aside: A,
     staff_aside: B,
 ) -> Result<(), Fault>
@@ -158,7 +187,7 @@ where
         + Files<File = File>
         + Ledgers<InFile = Ledger<S>>
         + Clock
-        + Eprint
+        + Log
         + AllocGlobal
         + Copy
         + Send
@@ -171,7 +200,7 @@ where
     let noted = noted_in(&rt, words.journal)?;
     noted.refuse_ledger(&rt, words.ledger)?;
     ready_ledger(&rt, words.ledger)?;
-    let watch = CloseWatch::begin(rt, words.zone, words.early, Some(noted))?;
+    let watch = CloseWatch::begin(rt, words.zone, words.early, Some(noted), Some(closed))?;
     let mut ledger = rt.ledger(words.ledger)?;
     let stayed = stay_watched(
         rt,
@@ -206,7 +235,7 @@ where
         + Wait
         + Files<File = File>
         + Clock
-        + Eprint
+        + Log
         + AllocGlobal
         + Copy
         + Send

@@ -1,2 +1,3 @@
 pub mod Journals
+pub mod Logged
 pub mod JournalRows

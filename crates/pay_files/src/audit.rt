@@ -7,10 +7,11 @@ use crate::kept::{KeptFares, file_of, kept_beside, kept_in, noted_beside, noted_
 use crate::ledgers::Ledgers;
 use crate::noted::NotedPosting;
 use pay_jobs::{Alter, Audit, Fault, FileFault, Ledger, audit_journals, audit_ledger, rebuilt};
+use pay_log::Log;
 use pay_words::{AuditWords, RebuildWords};
 use std::alloc::AllocError;
 use std::fs::File;
-use std::io::{Eprint, ErrorKind, Write};
+use std::io::{ErrorKind, Write};
 use std::process::ExitCode;
 use std::rt::Files;
 use std::{fs, io};
@@ -19,7 +20,7 @@ use std::{fs, io};
 /// standard output. The status says whether they belong together. No line is added, and nothing is posted.
 pub fn audit_files<R, S: Alter + Drop>(rt: &R, words: &AuditWords<'_>) -> Result<ExitCode, Fault>
 where
-    R: Files<File = File> + Ledgers<InFile = Ledger<S>> + Print + Eprint + AllocGlobal,
+    R: Files<File = File> + Ledgers<InFile = Ledger<S>> + Print + Log + AllocGlobal,
 {
     let fares = fares_text(rt, words.fares)?;
     let texts = texts_at(rt, words.journal)?;

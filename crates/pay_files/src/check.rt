@@ -6,15 +6,15 @@ use crate::input::{fares_text, old_fares_text, print_warnings};
 use pay_check::{CheckFault, check_against, check_text};
 use pay_editions::fault_place;
 use pay_jobs::Fault;
+use pay_log::{Level, Log};
 use pay_words::CheckWords;
 use std::io;
-use std::io::Eprint;
 use std::process::ExitCode;
 use std::rt::Files;
 
 /// What the fare file at a path has, or that it prices days as an old one does, to standard output; and its warnings to
 /// standard error, where they are asked for. One of these is status 1.
-pub fn check_fares<R: Files + Print + Eprint + AllocGlobal>(
+pub fn check_fares<R: Files + Print + Log + AllocGlobal>(
     rt: &R,
     words: &CheckWords<'_>,
 ) -> Result<ExitCode, Fault>
@@ -48,7 +48,7 @@ fn check<R: Files + Print + AllocGlobal>(
 }
 
 /// Reports why the job failed; and where the fare file is at fault, or its warnings where it differs, if that is asked for.
-fn report<R: Eprint + AllocGlobal>(
+fn report<R: Log + AllocGlobal>(
     rt: &R,
     words: &CheckWords<'_>,
     fares: &str,
@@ -59,10 +59,10 @@ fn report<R: Eprint + AllocGlobal>(
     } else {
         None
     };
-    let _ = match place {
-        Some(place) => eprintln!(rt; "farebox: {fault} {place}"),
-        None => eprintln!(rt; "farebox: {fault}"),
-    };
+    match place {
+        Some(place) => rt.say(Level::Error, format_args!("farebox: {fault} {place}")),
+        None => rt.say(Level::Error, format_args!("farebox: {fault}")),
+    }
     match fault {
         CheckFault::OtherFares { .. } if words.lints => warn(rt, fares),
         _ => Ok(ExitCode::FAILURE),
@@ -70,7 +70,7 @@ fn report<R: Eprint + AllocGlobal>(
 }
 
 /// Prints the warnings of a fare file. The status that the program then ends with.
-fn warn<R: Eprint + AllocGlobal>(rt: &R, fares: &str) -> Result<ExitCode, Fault> {
+fn warn<R: Log + AllocGlobal>(rt: &R, fares: &str) -> Result<ExitCode, Fault> {
     match print_warnings(rt, fares)? {
         0 => Ok(ExitCode::SUCCESS),
         _ => Ok(ExitCode::FAILURE),

@@ -1,15 +1,17 @@
 //! What is known of closes into a ledger in a file.
 
+use crate::last_close::{Close, LastClose};
 use crate::noted::NotedPosting;
 use pay_jobs::{Alter, Fault, LastPosting, Ledger, NotClosed, Watch, is_over, read_zone};
+use pay_log::{Level, Log};
 use std::alloc::AllocError;
 use std::fs::File;
-use std::io::Eprint;
 use std::rt::{Clock, Files};
+use std::time::Instant;
 
 /// Watches the closes into a ledger in a file: a day that is not over by the clock is not closed, unless that is asked for; what is refused
-/// is reported to standard error; and the last posting is noted beside the journal, if there is one, when a session begins and after each
-/// close.
+/// is reported to standard error, as is each close of a service that stays; and the last posting is noted beside the journal, if there is
+/// one, when a session begins and after each close.
 #[derive(Drop)]
 pub struct CloseWatch<R> {
     /// Where files, standard error and the clock are.
@@ -20,8 +22,12 @@ pub struct CloseWatch<R> {
     early: bool,
     /// Where the last posting is noted.
     noted: Option<NotedPosting>,
-    /// The newest posting of the ledger that was taken, if it is to be noted.
+    /// The newest posting of the ledger, if it is to be noted.
     newest: Option<LastPosting>,
+    /// The day that may be closed now.
+    day: u32,
+    /// What is told of each close of a service that stays.
+    told: Option<LastClose>,
     /// Whether a close was refused, or a posting was not noted.
     pub has_failed: bool,
 }
@@ -33,6 +39,7 @@ impl<R: AllocGlobal + Copy> CloseWatch<R> {
         zone: &str,
         early: bool,
         noted: Option<NotedPosting>,
+        told: Option<LastClose>,
     ) -> Result<CloseWatch<R>, AllocError> {
         let mut text = String::new(rt.alloc());
         text.push_str(zone)?;
@@ -42,12 +49,14 @@ impl<R: AllocGlobal + Copy> CloseWatch<R> {
             early,
             noted,
             newest: None,
+            day: 0,
+            told,
             has_failed: false,
         })
     }
 }
 
-impl<R: Files<File = File> + Clock + Eprint + AllocGlobal> CloseWatch<R> {
+impl<R: Files<File = File> + Clock + Log + AllocGlobal> CloseWatch<R> {
     /// Takes a ledger that has the posting that is noted, if one is. Its newest posting, which may be a later one, is noted once the session
     /// begins.
     pub fn take<S: Alter>(&mut self, ledger: &mut Ledger<S>) -> Result<(), Fault> {
@@ -71,15 +80,43 @@ impl<R: Files<File = File> + Clock + Eprint + AllocGlobal> CloseWatch<R> {
     fn note(&mut self, last: LastPosting) {
         if let Some(noted) = &mut self.noted {
             if noted.note(&self.rt, last).is_err() {
-                let (rt, path) = (&self.rt, noted.path());
-                let _ = eprintln!(rt; "farebox: cannot note the last posting in {path}");
+                let path = noted.path();
+                let line = format_args!("farebox: cannot note the last posting in {path}");
+                self.rt.say(Level::Warning, line);
                 self.has_failed = true;
             }
         }
     }
+
+    /// Tells of a close, after which this is the last posting that was made since the ledger was opened.
+    fn tell(&mut self, last: Option<LastPosting>) {
+        let Some(told) = &self.told else {
+            return;
+        };
+        let day = self.day;
+        let postings = match last {
+            Some(last) => made_since(self.newest, last),
+            None => 0,
+        };
+        let line = format_args!("farebox: closed day {day}: {postings} postings");
+        self.rt.say(Level::Information, line);
+        let at = Instant::now(&self.rt).ok();
+        told.tell(Close { day, postings, at });
+        self.newest = last.or(self.newest);
+    }
 }
 
-impl<R: Files<File = File> + Clock + Eprint + AllocGlobal> Watch for CloseWatch<R> {
+/// How many postings a ledger has that are newer than one, up to another: each has the next number.
+fn made_since(before: Option<LastPosting>, last: LastPosting) -> u64 {
+    let before = match before {
+        Some(before) => before.id.unwrap_or(0),
+        None => 0,
+    };
+    let made = last.id.unwrap_or(0).saturating_sub(before);
+    u64::try_from(made).unwrap_or(0)
+}
+
+impl<R: Files<File = File> + Clock + Log + AllocGlobal> Watch for CloseWatch<R> {
     fn begins(&mut self) {
         if let Some(newest) = self.newest {
             self.note(newest);
@@ -87,11 +124,14 @@ impl<R: Files<File = File> + Clock + Eprint + AllocGlobal> Watch for CloseWatch<
     }
 
     fn may_close(&mut self, day: u32) -> bool {
+        self.day = day;
         if self.early || self.is_over(day) {
             return true;
         }
-        let rt = &self.rt;
-        let _ = eprintln!(rt; "farebox: close of day {day} refused: it is not over (see --early)");
+        let line = format_args!(
+            "farebox: close of day {day} refused: it is not over (see --early)"
+        );
+        self.rt.say(Level::Warning, line);
         self.has_failed = true;
         false
     }
@@ -100,18 +140,23 @@ impl<R: Files<File = File> + Clock + Eprint + AllocGlobal> Watch for CloseWatch<
         if let Some(last) = last {
             self.note(last);
         }
+        self.tell(last);
     }
 
     fn not_closed(&mut self, day: u32, why: &NotClosed) {
-        let rt = &self.rt;
-        let _ = match why.posted_later() {
-            Some((account, through)) => {
-                eprintln!(rt;
+        let level = Level::Error;
+        match why.posted_later() {
+            Some((account, through)) => self.rt.say(
+                level,
+                format_args!(
                     "farebox: close of day {day} refused: {why}: account {account} was posted through day {through}"
-                )
-            }
-            None => eprintln!(rt; "farebox: close of day {day} refused: {why}"),
-        };
+                ),
+            ),
+            None => self.rt.say(
+                level,
+                format_args!("farebox: close of day {day} refused: {why}"),
+            ),
+        }
         self.has_failed = true;
     }
 }

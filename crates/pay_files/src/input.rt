@@ -3,11 +3,11 @@
 use crate::errors::memory_or;
 use pay_fare_file::FareFileFault;
 use pay_jobs::{Fault, FileFault};
+use pay_log::{Level, Log};
 use pay_warnings::warnings;
 use pay_wire::Refusal;
 use std::alloc::AllocError;
 use std::fs;
-use std::io::Eprint;
 use std::process::ExitCode;
 use std::rt::Files;
 
@@ -28,11 +28,11 @@ pub fn old_fares_text<R: Files + AllocGlobal>(rt: &R, path: &str) -> Result<Stri
 }
 
 /// Prints the warnings of a fare file to standard error, a line for each. How many there are: none where it is refused.
-pub fn print_warnings<R: Eprint + AllocGlobal>(rt: &R, fares: &str) -> Result<usize, Fault> {
+pub fn print_warnings<R: Log + AllocGlobal>(rt: &R, fares: &str) -> Result<usize, Fault> {
     match warnings(rt.alloc(), fares) {
         Ok(warnings) => {
             for warning in &warnings {
-                let _ = eprintln!(rt; "farebox: warning: {warning}");
+                rt.say(Level::Warning, format_args!("farebox: warning: {warning}"));
             }
             Ok(warnings.len())
         }
@@ -48,7 +48,10 @@ pub fn is_input_a_file<R: Files>(rt: &R) -> bool {
 }
 
 /// Reports the line of a journal, by its path, that is not accepted. The status that the program then ends with.
-pub fn report_line<R: Eprint>(rt: &R, path: &str, line: u64, why: Refusal) -> ExitCode {
-    let _ = eprintln!(rt; "farebox: {path} line {line}: {why}");
+pub fn report_line<R: Log>(rt: &R, path: &str, line: u64, why: Refusal) -> ExitCode {
+    rt.say(
+        Level::Error,
+        format_args!("farebox: {path} line {line}: {why}"),
+    );
     ExitCode::FAILURE
 }

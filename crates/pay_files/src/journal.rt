@@ -1,5 +1,5 @@
 //! The files of journals.
-ghost use Rattle.std.specs.Prelude.{◌≡◌, ◌≤◌, ◌↔◌, ◌+◌, true, false, length, IfOk, OnOk};
+ghost use Rattle.std.specs.Prelude.{◌≡◌, ◌≤◌, ◌↔◌, ◌+◌, true, false, length, count_by, nat_eq, IfOk, OnOk};
 ghost use Rattle.pay_session.specs.Words.{rest_of};
 ghost use Rattle.pay_files.specs.Journals.{are_zeros, is_cut_line, may_begin};
 ghost use Rattle.pay_words.specs.declared.limits.TheConstants.{MOST_SHARDS};
@@ -8,11 +8,12 @@ use crate::errors::memory_or;
 use crate::reporting_keeper::ReportingKeeper;
 use pay_jobs::{Fault, FileFault, LineKeeper, whole_bytes};
 use pay_ledger::OpenFault;
+use pay_log::Log;
 use pay_wire::limits::MOST_LINE_BYTES;
 use pay_words::limits::MOST_SHARDS;
 use std::alloc::{AllocError, Global};
 use std::fs::{File, Files, OpenOptions};
-use std::io::{Eprint, ErrorKind, Read};
+use std::io::{ErrorKind, Read};
 use std::os::unix::fs::OpenOptionsExt;
 use std::sync::Arc;
 use std::sync::atomic::AtomicBool;
@@ -49,6 +50,13 @@ pub struct JournalFile {
     pub file: File,
 }
 
+/// How many newlines a text has.
+fn newlines_in(text: &[u8]) -> usize
+    ensures { result ≡ count_by (nat_eq 10) text.now }
+{
+    text.iter().filter(|byte| **byte == b'\n').count()
+}
+
 /// Opens the journal at a path, which is made where there is none. No other session has it then.
 pub fn open_journal<R: Files<File = File> + AllocGlobal>(
     rt: &R,
@@ -62,7 +70,7 @@ pub fn open_journal<R: Files<File = File> + AllocGlobal>(
 
 /// Opens the journals in a folder, each of which is made where there is none: that of each shard, and those of the shards that a
 /// service does not have, to which nothing is added. No other session has any of them then.
-pub fn open_journals<R: Files<File = File> + Eprint + AllocGlobal + Copy>(
+pub fn open_journals<R: Files<File = File> + Log + AllocGlobal + Copy>(
     rt: &R,
     folder: &str,
     shards: u8,
@@ -78,7 +86,7 @@ pub fn open_journals<R: Files<File = File> + Eprint + AllocGlobal + Copy>(
     }
 }
 
-fn all_opened<R: Files<File = File> + Eprint + AllocGlobal + Copy>(
+fn all_opened<R: Files<File = File> + Log + AllocGlobal + Copy>(
     rt: &R,
     folder: &str,
     shards: u8,
@@ -118,7 +126,16 @@ pub fn path_in(alloc: Global, folder: &str, number: u64) -> Result<String, Alloc
     Ok(path)
 }
 
-impl<R: Eprint + Copy> JournalFiles<R> {
+impl<R: Log + Copy> JournalFiles<R> {
+    /// How many whole lines all of them have.
+    pub fn lines(&self) -> u64 {
+        let mut lines: u64 = 0;
+        for text in &self.texts {
+            lines = lines.saturating_add(newlines_in(text) as u64);
+        }
+        lines
+    }
+
     /// Takes the journal of the next shard.
     fn keep(&mut self, rt: R, path: String, past: Vec<u8>, file: File) -> Result<(), AllocError>
         ensures texts { OnOk result (length self.new.texts.items ≡ 1 + length self.old.texts.items) }

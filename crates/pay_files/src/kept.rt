@@ -5,9 +5,10 @@ use crate::errors::memory_or;
 use crate::journal::{ASIDE, OWNER_ALONE, is_new_ledger, refuse_ledger_at, settle_folder_of};
 use crate::noted::NotedPosting;
 use pay_jobs::{Command, Fault, FileFault, Keeper, NotKept, has_ledger, kept_text};
+use pay_log::{Level, Log};
 use std::alloc::{AllocError, Global};
 use std::fs::{File, Files, OpenOptions};
-use std::io::{Eprint, ErrorKind, Write};
+use std::io::{ErrorKind, Write};
 use std::os::unix::fs::OpenOptionsExt;
 use std::{fs, io};
 
@@ -74,7 +75,7 @@ impl KeptFares {
     }
 
     /// Keeps this fare file and zone, unless they are kept: beside the journals of a service, before it takes a port.
-    pub fn keep<R: Files<File = File> + Eprint + AllocGlobal>(&self, rt: &R) -> Result<(), Fault> {
+    pub fn keep<R: Files<File = File> + Log + AllocGlobal>(&self, rt: &R) -> Result<(), Fault> {
         if self.is_there() {
             return Ok(());
         }
@@ -82,7 +83,10 @@ impl KeptFares {
         match replace(rt, path, self.text.as_str()) {
             Ok(()) => Ok(()),
             Err(_) => {
-                let _ = eprintln!(rt; "farebox: cannot keep fares in {path}");
+                rt.say(
+                    Level::Error,
+                    format_args!("farebox: cannot keep fares in {path}"),
+                );
                 Err(Fault::Journal)
             }
         }
@@ -193,7 +197,7 @@ pub struct FaresFirst<K, R> {
     has_failed: bool,
 }
 
-impl<K: Keeper, R: Files<File = File> + Eprint + AllocGlobal + Copy> FaresFirst<K, R> {
+impl<K: Keeper, R: Files<File = File> + Log + AllocGlobal + Copy> FaresFirst<K, R> {
     /// The keeper of the lines of one journal, so that it keeps the fare file and the zone first.
     pub fn over(rt: R, keeper: K, fares: KeptFares) -> FaresFirst<K, R>
         ensures { result.keeper ≡ keeper }
@@ -236,7 +240,7 @@ pub(crate) fn copy_of(alloc: Global, text: &str) -> Result<String, AllocError> {
     Ok(copy)
 }
 
-impl<K: Keeper, R: Files<File = File> + Eprint + AllocGlobal + Copy> Keeper for FaresFirst<K, R> {
+impl<K: Keeper, R: Files<File = File> + Log + AllocGlobal + Copy> Keeper for FaresFirst<K, R> {
     ghost use Rattle.std.specs.Prelude.{◌≡◌, ◌⊎◌, true};
 
     ghost holds = { λ k. K.holds k.keeper };

@@ -3,12 +3,17 @@
 use crate::backup::back_up;
 use crate::journal::{folder_of, open_or_make, place_of, settle_folder_of, settle_target};
 use crate::kept::copy_of;
-use pay_peers::Aside;
+use crate::last_close::LastClose;
+use crate::start::{Start, Took};
+use crate::stats::{journal_bytes, memory_bytes, put};
+use pay_log::{Level, Limiter, Log};
+use pay_peers::{Aside, Ports};
 use std::alloc::AllocError;
 use std::fs::{File, Files};
-use std::io::{Eprint, ErrorKind, Read, Seek, SeekFrom, Write};
-use std::sync::Arc;
+use std::io::{ErrorKind, Read, Seek, SeekFrom, Write};
 use std::sync::atomic::{AtomicBool, Ordering};
+use std::sync::{Arc, Wait};
+use std::time::Clock;
 use std::{fs, io};
 
 /// The file of refused lines, as one lane has it: each adds at its end, whatever others do at the same time.
@@ -20,11 +25,13 @@ struct RefusedFile {
     told: Arc<AtomicBool>,
 }
 
-/// What a lane of a service does beside its lines: those that are refused are added to a file, if there is one.
+/// What a lane of a service does beside its lines: those that are refused are added to a file, if there is one; and the log is told of lost
+/// connections, once a second at most over all lanes.
 #[derive(Drop)]
 pub struct LaneFiles<R> {
     rt: R,
     refused: Option<RefusedFile>,
+    lost: Limiter,
 }
 
 /// Whether a file is empty, or begins as one of refused lines: by the number of a refusal, of which each begins with 1, 2 or 5. A ledger
@@ -105,10 +112,11 @@ impl RefusedFile {
     }
 
     /// Says that a line was not kept, once for all lanes.
-    fn report<R: Eprint>(&self, rt: &R) {
+    fn report<R: Log>(&self, rt: &R) {
         if !self.told.swap(true, Ordering::SeqCst) {
             let path = self.path.as_str();
-            let _ = eprintln!(rt; "farebox: cannot keep refused lines in {path}");
+            let line = format_args!("farebox: cannot keep refused lines in {path}");
+            rt.say(Level::Error, line);
         }
     }
 }
@@ -120,14 +128,17 @@ impl<R: Files<File = File> + AllocGlobal + Copy> LaneFiles<R> {
             Some(path) => Some(refused_at(&rt, path, journals)?),
             None => None,
         };
-        Ok(LaneFiles { rt, refused })
+        let lost = Limiter::new(rt.alloc())?;
+        Ok(LaneFiles { rt, refused, lost })
     }
 }
 
-impl<R: Eprint + AllocGlobal + Copy> Aside for LaneFiles<R> {
+impl<R: Log + Clock + Wait + AllocGlobal + Copy> Aside for LaneFiles<R> {
     ghost use Rattle.std.specs.Prelude.{⊤};
 
     ghost Copies = { λ _ _ _ _. ⊤ };
+
+    ghost Stops = { λ _ _. ⊤ };
 
     fn again(&self) -> io::Result<LaneFiles<R>> {
         let refused = match &self.refused {
@@ -137,7 +148,21 @@ impl<R: Eprint + AllocGlobal + Copy> Aside for LaneFiles<R> {
         Ok(LaneFiles {
             rt: self.rt,
             refused,
+            lost: self.lost.again()?,
         })
+    }
+
+    fn begin(&mut self, _: Ports) {}
+
+    fn stop(&mut self) {}
+
+    fn lose(&mut self, why: ErrorKind) {
+        let line = format_args!("farebox: connection lost: {why}");
+        self.lost.say(&self.rt, Level::Information, line);
+    }
+
+    fn put_stats(&self, _: &mut String) -> Result<(), AllocError> {
+        Ok(())
     }
 
     fn keeps_refused(&self) -> bool {
@@ -157,38 +182,107 @@ impl<R: Eprint + AllocGlobal + Copy> Aside for LaneFiles<R> {
     }
 }
 
-/// What the lane of staff does beside its lines: it copies the ledger too. Lanes in threads of their own make no files.
+/// What the lane of staff does beside its lines: it copies the ledger too, and tells of the service. Lanes in threads of their own make no
+/// files.
 #[derive(Drop)]
 pub struct StaffFiles<R> {
     lane: LaneFiles<R>,
     ledger: String,
     journals: String,
+    start: Start,
+    closed: LastClose,
 }
 
-impl<R: Eprint + AllocGlobal + Copy> StaffFiles<R> {
-    /// That of a service with this ledger and journals in this folder, beside what another of its lanes does.
-    pub fn beside(lane: &LaneFiles<R>, ledger: &str, journals: &str) -> io::Result<StaffFiles<R>> {
+impl<R: Log + Clock + Wait + AllocGlobal + Copy> StaffFiles<R> {
+    /// That of a service with this ledger and journals in this folder, its start and its closes, beside what another of its lanes does.
+    pub fn beside(
+        lane: &LaneFiles<R>,
+        ledger: &str,
+        journals: &str,
+        start: Start,
+        closed: &LastClose,
+    ) -> io::Result<StaffFiles<R>> {
         let alloc = lane.rt.alloc();
         Ok(StaffFiles {
             lane: lane.again()?,
             ledger: copy_of(alloc, ledger)?,
             journals: copy_of(alloc, journals)?,
+            start,
+            closed: closed.again()?,
         })
+    }
+
+    /// Says what the start took, if the clock can tell.
+    fn tell_start(&self) -> Option<()> {
+        let rt = &self.lane.rt;
+        let time = self.start.began?.elapsed(rt).ok()?;
+        let took = Took::new(self.start.lines, time);
+        rt.say(Level::Information, format_args!("farebox: {took}"));
+        Some(())
+    }
+
+    /// Adds the last close of the service, if there was one.
+    fn put_close(&self, line: &mut String) -> Result<(), AllocError> {
+        let Some(close) = self.closed.get() else {
+            return Ok(());
+        };
+        put(line, "close_day", Some(u64::from(close.day)))?;
+        put(line, "close_postings", Some(close.postings))?;
+        let time = match close.at {
+            Some(at) => at.elapsed(&self.lane.rt).ok(),
+            None => None,
+        };
+        put(line, "close_seconds", time.map(|time| time.as_secs()))
     }
 }
 
 /// Says why a ledger was not copied to a path.
-fn report_backup<R: Eprint>(rt: &R, path: &str, why: &io::Error) {
-    let _ = eprintln!(rt; "farebox: cannot back up to {path}: {why}");
+fn report_backup<R: Log>(rt: &R, path: &str, why: &io::Error) {
+    let line = format_args!("farebox: cannot back up to {path}: {why}");
+    rt.say(Level::Error, line);
 }
 
-impl<R: Files<File = File> + Eprint + AllocGlobal + Copy> Aside for StaffFiles<R> {
+impl<R: Files<File = File> + Log + Clock + Wait + AllocGlobal + Copy> Aside for StaffFiles<R> {
     ghost use Rattle.std.specs.Prelude.{⊤};
 
     ghost Copies = { λ _ _ _ _. ⊤ };
 
+    ghost Stops = { λ _ _. ⊤ };
+
     fn again(&self) -> io::Result<StaffFiles<R>> {
-        StaffFiles::beside(&self.lane, self.ledger.as_str(), self.journals.as_str())
+        StaffFiles::beside(
+            &self.lane,
+            self.ledger.as_str(),
+            self.journals.as_str(),
+            self.start,
+            &self.closed,
+        )
+    }
+
+    fn begin(&mut self, ports: Ports) {
+        let _ = self.tell_start();
+        let Ports { everybody, staff } = ports;
+        let line = format_args!(
+            "farebox: listening on 127.0.0.1:{everybody}, for staff on 127.0.0.1:{staff}"
+        );
+        self.lane.rt.say(Level::Information, line);
+    }
+
+    fn stop(&mut self) {
+        let rt = &self.lane.rt;
+        rt.say(Level::Information, "farebox: staff stop the service");
+    }
+
+    fn lose(&mut self, why: ErrorKind) {
+        self.lane.lose(why);
+    }
+
+    fn put_stats(&self, line: &mut String) -> Result<(), AllocError> {
+        let rt = &self.lane.rt;
+        let journals = journal_bytes(rt, self.journals.as_str()).ok();
+        put(line, "journal_bytes", journals)?;
+        put(line, "memory_bytes", memory_bytes(rt))?;
+        self.put_close(line)
     }
 
     fn keeps_refused(&self) -> bool {

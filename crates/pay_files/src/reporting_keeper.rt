@@ -1,7 +1,7 @@
 //! A keeper that reports where it fails.
 
 use pay_jobs::{Command, Keeper, NotKept};
-use std::io::Eprint;
+use pay_log::{Level, Log};
 use std::sync::Arc;
 use std::sync::atomic::{AtomicBool, Ordering};
 
@@ -19,16 +19,17 @@ pub struct ReportingKeeper<K, R> {
     pub failed: Arc<AtomicBool>,
 }
 
-impl<K: Keeper, R: Eprint + Copy> ReportingKeeper<K, R> {
+impl<K: Keeper, R: Log + Copy> ReportingKeeper<K, R> {
     /// Reports that a line is not kept, or not for sure.
     fn report(&self) {
-        let (rt, path) = (&self.rt, self.path.as_str());
-        let _ = eprintln!(rt; "farebox: cannot keep lines in {path}");
+        let path = self.path.as_str();
+        let line = format_args!("farebox: cannot keep lines in {path}");
+        self.rt.say(Level::Error, line);
         self.failed.store(true, Ordering::SeqCst);
     }
 }
 
-impl<K: Keeper, R: Eprint + Copy> Keeper for ReportingKeeper<K, R> {
+impl<K: Keeper, R: Log + Copy> Keeper for ReportingKeeper<K, R> {
     ghost holds = { λ k. K.holds k.keeper };
 
     ghost HasFailed = { λ k. K.HasFailed k.keeper };

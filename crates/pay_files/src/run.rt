@@ -8,11 +8,12 @@ use crate::ledgers::Ledgers;
 use crate::noted::NotedPosting;
 use pay_jobs::{Alter, Begun, Book, Fault, Keeper, Ledger, NoKeeper, NoWatch, Ran, begin, told};
 use pay_ledger_files::new_ledger;
+use pay_log::Log;
 use pay_words::RunWords;
 use std::alloc::AllocError;
 use std::fs::File;
 use std::io;
-use std::io::{BufRead, BufReader, Eprint};
+use std::io::{BufRead, BufReader};
 use std::process::ExitCode;
 use std::rt::{Clock, Files};
 
@@ -25,7 +26,7 @@ where
         + Clock
         + Input
         + Print
-        + Eprint
+        + Log
         + AllocGlobal
         + Copy,
 {
@@ -49,13 +50,7 @@ fn run_from<R, S: Alter + Drop, I: BufRead>(
     reader: &mut I,
 ) -> Result<ExitCode, Fault>
 where
-    R: Files<File = File>
-        + Ledgers<InFile = Ledger<S>>
-        + Clock
-        + Print
-        + Eprint
-        + AllocGlobal
-        + Copy,
+    R: Files<File = File> + Ledgers<InFile = Ledger<S>> + Clock + Print + Log + AllocGlobal + Copy,
 {
     match words.journal {
         None => run_unkept(rt, words, fares, reader),
@@ -74,13 +69,7 @@ fn run_unkept<R, S: Alter + Drop, I: BufRead>(
     reader: &mut I,
 ) -> Result<ExitCode, Fault>
 where
-    R: Files<File = File>
-        + Ledgers<InFile = Ledger<S>>
-        + Clock
-        + Print
-        + Eprint
-        + AllocGlobal
-        + Copy,
+    R: Files<File = File> + Ledgers<InFile = Ledger<S>> + Clock + Print + Log + AllocGlobal + Copy,
 {
     let begun = begin(rt.alloc(), fares, words.zone, &[])?;
     match words.ledger {
@@ -104,13 +93,7 @@ fn run_kept<R, S: Alter + Drop, I: BufRead>(
     reader: &mut I,
 ) -> Result<ExitCode, Fault>
 where
-    R: Files<File = File>
-        + Ledgers<InFile = Ledger<S>>
-        + Clock
-        + Print
-        + Eprint
-        + AllocGlobal
-        + Copy,
+    R: Files<File = File> + Ledgers<InFile = Ledger<S>> + Clock + Print + Log + AllocGlobal + Copy,
 {
     let JournalFile { past, file } = journal;
     let begun = begin(rt.alloc(), fares, words.zone, past.as_slice())?;
@@ -156,16 +139,10 @@ fn run_in_file<R, S: Alter + Drop, K: Keeper, I: BufRead>(
     reader: &mut I,
 ) -> Result<ExitCode, Fault>
 where
-    R: Files<File = File>
-        + Ledgers<InFile = Ledger<S>>
-        + Clock
-        + Print
-        + Eprint
-        + AllocGlobal
-        + Copy,
+    R: Files<File = File> + Ledgers<InFile = Ledger<S>> + Clock + Print + Log + AllocGlobal + Copy,
 {
     ready_ledger(rt, path)?;
-    let watch = CloseWatch::begin(*rt, words.zone, words.early, noted)?;
+    let watch = CloseWatch::begin(*rt, words.zone, words.early, noted, None)?;
     let mut ledger = rt.ledger(path)?;
     let status = run_watched(rt, begun, keeper, &mut ledger, watch, reader);
     rt.close(ledger);
@@ -182,7 +159,7 @@ fn run_watched<R, K: Keeper, S: Alter, I: BufRead>(
     reader: &mut I,
 ) -> Result<ExitCode, Fault>
 where
-    R: Files<File = File> + Clock + Print + Eprint + AllocGlobal + Copy,
+    R: Files<File = File> + Clock + Print + Log + AllocGlobal + Copy,
 {
     watch.take(ledger)?;
     let mut writer = io::writer(rt);

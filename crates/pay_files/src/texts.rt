@@ -4,10 +4,11 @@ ghost use Rattle.pay_jobs.specs.Words.{IsDay};
 use crate::input::{fares_text, is_input_a_file, report_line};
 use crate::journal::read_journal;
 use pay_jobs::{Fault, replay_texts, statement_texts};
+use pay_log::Log;
 use pay_words::{ReplayWords, StatementWords};
 use std::alloc::AllocError;
 use std::io;
-use std::io::{BufRead, BufReader, Eprint};
+use std::io::{BufRead, BufReader};
 use std::process::ExitCode;
 use std::rt::Files;
 
@@ -67,7 +68,7 @@ fn state_by<R: Print + AllocGlobal, I: BufRead>(
 }
 
 /// How much the journals at these paths have, to standard output.
-pub fn replay_journals<R: Files + Print + Eprint + AllocGlobal>(
+pub fn replay_journals<R: Files + Print + Log + AllocGlobal>(
     rt: &R,
     words: &ReplayWords<'_>,
 ) -> Result<ExitCode, Fault> {

@@ -17,26 +17,33 @@ use pay_close::{LedgerTill, Watch};
 use pay_jobs::{Fault, replayed_texts, take_with};
 use pay_journal::Keeper;
 use pay_ledger::Ledger;
+use pay_log::{Level, Log};
 use pay_serve::{Given, Plan, ServeFault, listen};
 use pay_tables::Editions;
 use pay_till::NoTill;
 use pay_wire::KnownWriter;
 use sqlite::Alter;
 use std::alloc::Global;
-use std::io::Eprint;
 use std::net::{Net, TcpListener, TcpStream};
 use std::sync::{Arc, Wait};
 use std::thread::Threads;
 
 /// Says on standard error where it listens.
-fn tell_ports<R: Eprint>(rt: &R, plan: &Plan) {
+fn tell_ports<R: Log>(rt: &R, plan: &Plan) {
     let first = plan.port;
     let last = first.saturating_add(u16::from(plan.lanes.saturating_sub(1)));
-    let _ = if first == last {
-        eprintln!(rt; "farebox: listening on 127.0.0.1:{first}")
+    let level = Level::Information;
+    if first == last {
+        rt.say(
+            level,
+            format_args!("farebox: listening on 127.0.0.1:{first}"),
+        );
     } else {
-        eprintln!(rt; "farebox: listening on 127.0.0.1:{first} to {last}")
-    };
+        rt.say(
+            level,
+            format_args!("farebox: listening on 127.0.0.1:{first} to {last}"),
+        );
+    }
 }
 
 /// Takes a ledger with the accounts that the journals of a service give back. These are let go again before the service begins.
@@ -101,7 +108,7 @@ where
     R: Net<Listener = TcpListener, Stream = TcpStream>
         + Threads
         + Wait
-        + Eprint
+        + Log
         + Copy
         + Send
         + 'static,
@@ -138,7 +145,7 @@ where
     R: Net<Listener = TcpListener, Stream = TcpStream>
         + Threads
         + Wait
-        + Eprint
+        + Log
         + Copy
         + Send
         + 'static,

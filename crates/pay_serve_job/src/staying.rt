@@ -17,7 +17,7 @@ use pay_till::Till;
 use sqlite::Alter;
 use std::alloc::{AllocError, Global};
 use std::io;
-use std::io::{Eprint, ErrorKind};
+use std::io::ErrorKind;
 use std::net::{Net, TcpListener, TcpStream};
 use std::sync::atomic::AtomicBool;
 use std::sync::{Arc, Wait};
@@ -121,7 +121,7 @@ fn stay_at<R, K, T: Till, A, B>(
     till: &mut T,
 ) -> Result<(), Fault>
 where
-    R: Threads + Wait + Clock + Eprint + Copy + Send + 'static,
+    R: Threads + Wait + Clock + Copy + Send + 'static,
     K: Keeper + Send + 'static,
     A: Aside + Send + 'static,
     B: Aside,
@@ -171,7 +171,7 @@ fn stay_into<R, K, S: Alter, C: Watch, A, B>(
     watch: &mut C,
 ) -> Result<(), Fault>
 where
-    R: Threads + Wait + Clock + Eprint + Copy + Send + 'static,
+    R: Threads + Wait + Clock + Copy + Send + 'static,
     K: Keeper + Send + 'static,
     A: Aside + Send + 'static,
     B: Aside,
@@ -202,7 +202,6 @@ where
         + Threads
         + Wait
         + Clock
-        + Eprint
         + Copy
         + Send
         + 'static,
@@ -264,7 +263,6 @@ where
         + Threads
         + Wait
         + Clock
-        + Eprint
         + Copy
         + Send
         + 'static,
