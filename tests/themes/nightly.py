@@ -325,6 +325,10 @@ class Nightly(Theme):
             path = written(self.folder, "farebox.conf", in_lines(["PORT=1", f'CONTROL="{staff.port}"', "LANES=2"]))
             came = ran([NIGHTLY, "19730", "--into", self.into], FAREBOX_CONF=path)
         self.check("a close by them", came, answers(self.closed(19730, MONDAY, 1, 610).encode()))
+        with Staff([whole(PAID)]) as staff:
+            came = ran([NIGHTLY, "19730", "--into", self.into], CONTROL=str(staff.port), GREETING="open sesame")
+        self.check("a close behind a greeting", came, answers(self.closed(19730, MONDAY, 1, 610).encode()))
+        self.check("what is sent", answers(b"".join(staff.heard)), answers(b"open sesame\nCLOSE 19730\nQUIT\n"))
 
 
 class Service(Theme):

@@ -105,13 +105,15 @@ fn plan_of(words: &StayWords<'_>) -> Plan
 }
 
 /// How a service stays by these words, until it is told to stop.
-fn staying_of<'a>(words: &StayWords<'_>, stop: &'a Arc<AtomicBool>) -> Staying<'a>
+fn staying_of<'a>(words: &StayWords<'a>, stop: &'a Arc<AtomicBool>) -> Staying<'a>
     ensures staff { result.staff ≡ words.now.control }
     ensures ahead { result.ahead ≡ words.now.ahead }
+    ensures greeting { result.greeting ≡ words.now.greeting }
 {
     Staying {
         staff: words.control,
         ahead: words.ahead,
+        greeting: words.greeting,
         stop,
     }
 }

@@ -31,6 +31,8 @@ pub struct Staying<'a> {
     pub staff: u16,
     /// How many seconds a tap may be ahead of the machine's clock: one that is more is refused by 1. Without it, none is.
     pub ahead: Option<u32>,
+    /// The line with which each connection has to begin, if it has to.
+    pub greeting: Option<&'a str>,
     /// What tells it to end, once it is true.
     pub stop: &'a Arc<AtomicBool>,
 }
@@ -218,7 +220,7 @@ where
         everybody: given.plan.port,
         staff: staying.staff,
     };
-    let shared = Shared::new(alloc, staying.stop, staying.ahead)?;
+    let shared = Shared::new(alloc, staying.stop, staying.ahead, staying.greeting)?;
     let places = places_at(
         rt,
         alloc,
