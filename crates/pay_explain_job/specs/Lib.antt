@@ -1,0 +1,3 @@
+pub mod Explain
+pub mod Heads
+pub mod Numbered

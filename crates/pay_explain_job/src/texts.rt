@@ -1,0 +1,73 @@
+//! The texts of a day and of a week, by what an account has accepted.
+ghost use Rattle.std.specs.Prelude.{IfOk};
+ghost use Rattle.std.specs.String.{string_bytes};
+ghost use Rattle.pay_day.specs.Words.{IsDay};
+ghost use Rattle.pay_explain_job.specs.Explain.{IsDayText, IsWeekText, IsText, query};
+
+use crate::dated::{DatedDay, DatedWeek};
+use crate::heads::{with_day_head, with_week_head};
+use pay_day::monday;
+use pay_explain::{explained_day, explained_week};
+use pay_fix::FixSet;
+use pay_tables::Editions;
+use pay_taps::TapSet;
+use std::alloc::{AllocError, Global};
+
+/// Why a service day of an account was charged, with its date.
+fn day_text(
+    alloc: Global,
+    editions: &Editions,
+    taps: &TapSet,
+    fixes: &FixSet,
+    account: u32,
+    day: u32,
+) -> Result<String, AllocError>
+    requires { IsDay day }
+    ensures { IfOk result (λ text. IsDayText editions.now (record { taps = taps.now; fixes = fixes.now }) account day (string_bytes text)) }
+{
+    let explained = explained_day(alloc, editions, taps, fixes, day)?;
+    with_day_head(alloc, account, DatedDay::of(day), explained.as_str())
+}
+
+/// The same of the week of a service day through that day.
+fn week_text(
+    alloc: Global,
+    editions: &Editions,
+    taps: &TapSet,
+    fixes: &FixSet,
+    account: u32,
+    day: u32,
+) -> Result<String, AllocError>
+    requires { IsDay day }
+    ensures { IfOk result (λ text. IsWeekText editions.now (record { taps = taps.now; fixes = fixes.now }) account day (string_bytes text)) }
+{
+    let explained = explained_week(alloc, editions, taps, fixes, day)?;
+    let from = DatedDay::of(monday(day));
+    let through = DatedDay::of(day);
+    with_week_head(
+        alloc,
+        account,
+        DatedWeek { from, through },
+        explained.as_str(),
+    )
+}
+
+/// Either of these. An `Err` is out of memory.
+pub fn text_of(
+    alloc: Global,
+    editions: &Editions,
+    taps: &TapSet,
+    fixes: &FixSet,
+    account: u32,
+    day: u32,
+    week: bool,
+) -> Result<String, AllocError>
+    requires { IsDay day }
+    ensures { IfOk result (λ text. IsText editions.now (record { taps = taps.now; fixes = fixes.now }) (query account day week) (string_bytes text)) }
+{
+    if week {
+        week_text(alloc, editions, taps, fixes, account, day)
+    } else {
+        day_text(alloc, editions, taps, fixes, account, day)
+    }
+}
