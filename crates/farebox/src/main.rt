@@ -1,6 +1,7 @@
 //! The back office of pay as you go travel: reads taps as lines, and answers each with the price of its day and its week.
 #![tactic(auto)]
 
+mod explain;
 mod program;
 mod serve;
 mod stay;

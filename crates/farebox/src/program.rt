@@ -1,6 +1,7 @@
 //! The program: its words, and the job that they ask for.
 ghost use Rattle.farebox.specs.NoJob.{IsTextOrFault};
 
+use crate::explain::explain_account;
 use crate::serve::serve_sessions;
 use crate::stay::stay_on;
 use pay_files::{
@@ -117,6 +118,7 @@ where
         Ok(Job::Run(words)) => run_session(&rt, &words),
         Ok(Job::Check(words)) => check_fares(&rt, &words),
         Ok(Job::Statement(words)) => write_statement(&rt, &words),
+        Ok(Job::Explain(words)) => explain_account(&rt, &words),
         Ok(Job::Replay(words)) => replay_journals(&rt, &words),
         Ok(Job::Serve(words)) => serve_sessions(rt, &words),
         Ok(Job::Stay(words)) => stay_on(rt, &words),

@@ -42,7 +42,7 @@ fn is_folder<R: Files>(rt: &R, path: &str) -> bool {
 
 /// The bytes of the journal at a path, or of those in a folder: one that a folder does not have is empty, and a folder without any is none
 /// of a service.
-fn texts_at<R: Files + AllocGlobal>(rt: &R, path: &str) -> Result<Vec<Vec<u8>>, Fault> {
+pub fn texts_at<R: Files + AllocGlobal>(rt: &R, path: &str) -> Result<Vec<Vec<u8>>, Fault> {
     let mut texts: Vec<Vec<u8>> = Vec::new(rt.alloc());
     if !is_folder(rt, path) {
         texts
@@ -78,7 +78,7 @@ fn text_in<R: Files + AllocGlobal>(
 }
 
 /// The path of the journal of that number.
-fn path_of<R: Files + AllocGlobal>(rt: &R, path: &str, number: u64) -> Result<String, Fault> {
+pub fn path_of<R: Files + AllocGlobal>(rt: &R, path: &str, number: u64) -> Result<String, Fault> {
     if is_folder(rt, path) {
         return Ok(path_in(rt.alloc(), path, number)?);
     }

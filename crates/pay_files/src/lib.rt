@@ -1,4 +1,4 @@
-//! The jobs `run`, `check`, `statement`, `replay`, `audit` and `rebuild` of the program, by their words: their fare files, journals and
+//! The jobs `run`, `check`, `statement`, `explain`, `replay`, `audit` and `rebuild` of the program, by their words: their fare files, journals and
 //! ledgers are files, and lines come from standard input and go to standard output. And the files of journals, which the job `serve` uses too.
 #![tactic(auto)]
 
@@ -20,7 +20,7 @@ mod start;
 mod stats;
 mod texts;
 
-pub use audit::{audit_files, rebuild_lines};
+pub use audit::{audit_files, path_of, rebuild_lines, texts_at};
 pub use check::check_fares;
 pub use close_watch::CloseWatch;
 pub use errors::memory_or;
