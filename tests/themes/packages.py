@@ -34,6 +34,7 @@ FILES = {
     "./usr/share/bash-completion/completions/farebox": "-rw-r--r--",
     "./usr/share/doc/farebox/CHANGELOG.md": "-rw-r--r--",
     "./usr/share/doc/farebox/SECURITY.md": "-rw-r--r--",
+    "./usr/share/doc/farebox/docs/DISPUTES.md": "-rw-r--r--",
     "./usr/share/doc/farebox/docs/FILES.md": "-rw-r--r--",
     "./usr/share/doc/farebox/docs/FORMATS.md": "-rw-r--r--",
     "./usr/share/doc/farebox/docs/LINES.md": "-rw-r--r--",
