@@ -4,6 +4,7 @@ pub mod ArrivalOrder
 pub mod AskedChanges
 pub mod Batches
 pub mod Blocks
+pub mod Counted
 pub mod FirstOnes
 pub mod JournalFronts
 pub mod Journals

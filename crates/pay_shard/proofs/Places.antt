@@ -33,7 +33,7 @@ equal Greater p = cc
 pub one_number : (p q : ℕ) → same_number p q ≡ true → p ≡ q
 one_number p q e = nat_cmp-IsAntisymmetric p q (equal (nat_cmp p q) e)
 
-equal_to : (k q : ℕ) → nat_eq k q ≡ same_number k q
+pub equal_to : (k q : ℕ) → nat_eq k q ≡ same_number k q
 equal_to k q = by (nat_eq k q) (same_number k q) refl refl
   where
     by : (a b : Bool) → nat_eq k q ≡ a → same_number k q ≡ b → a ≡ b
@@ -312,7 +312,7 @@ module _ {F : Type 0} (account : F → ℕ) (accepted : F → Accepted) where
 
   -- ---- all in ascending order of their numbers
 
-  alike : (list : List F) (q : ℕ) → is_some (finite.get (state_of account accepted list) q) ≡ is_some (place_of q (map account list))
+  pub alike : (list : List F) (q : ℕ) → is_some (finite.get (state_of account accepted list) q) ≡ is_some (place_of q (map account list))
   unfolding state_of
   alike list q = ap is_some (get-from_entries nat_cmp_total (map entry list) q) ∙ both_none list q
 

@@ -133,6 +133,13 @@ impl<F: Fares> Accounts<F> {
         &self.editions
     }
 
+    /// How many accounts have accepted something.
+    pub fn count(&self) -> usize
+        ensures { result ≡ map.len self.now.state }
+    {
+        self.places.len()
+    }
+
     /// An account by its number.
     pub fn get(&self, number: u32) -> Option<&F>
         ensures some { IfSome result (λ it. map.get self.now.state number ≡ Some (F.accepted it.now)) }

@@ -103,6 +103,13 @@ impl<F: Fares> Shard<F> {
         self.accounts.editions()
     }
 
+    /// How many accounts have accepted something.
+    pub fn accounts(&self) -> usize
+        ensures { result ≡ map.len (state_now self.now) }
+    {
+        self.accounts.count()
+    }
+
     /// How many more items the journal takes without memory.
     pub fn room(&self) -> usize
         ensures { result ≡ self.now.memory.room }
