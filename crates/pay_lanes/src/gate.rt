@@ -4,6 +4,15 @@ ghost use Rattle.pay_lanes.specs.Passing.{Passed, passing};
 use pay_shard::{Answer, Entry};
 use std::sync::Wait;
 
+/// What a worker has on hand once an entry is answered.
+#[derive(Clone, Copy)]
+pub struct Load {
+    /// How many accounts of its shard have accepted something.
+    pub accounts: usize,
+    /// How many entries waited when it last looked.
+    pub waiting: usize,
+}
+
 /// What a worker passes with each entry: once the entry is popped and before it is applied, and once more with the answer,
 /// before its lane can have it. It changes nothing of the answer.
 pub trait Gate: Drop {
@@ -25,9 +34,9 @@ pub trait Gate: Drop {
         ensures same { (passed : List Passed) → Holds self.old passed false → Holds self.new passed false }
         ensures began { began self.new ≡ began self.old };
 
-    /// Is called with each answer, before its lane can have it. Where it says false the answer is held for good, and the worker takes no
-    /// more entries.
-    fn after_job<R: Wait>(&mut self, rt: &R, entry: &Entry, answer: &Answer) -> bool
+    /// Is called with each answer, before its lane can have it, and with what the worker then has on hand. Where it says false the answer
+    /// is held for good, and the worker takes no more entries.
+    fn after_job<R: Wait>(&mut self, rt: &R, load: Load, entry: &Entry, answer: &Answer) -> bool
         ensures passed { (passed : List Passed) → Holds self.old passed false → Holds self.new (passed ++ passing result entry.now answer.now) (not result) }
         ensures began { began self.new ≡ began self.old };
 }
@@ -51,7 +60,13 @@ impl Gate for OpenGate {
 
     fn before_job<R: Wait>(&mut self, _rt: &R, _shard: u8, _entry: &Entry) {}
 
-    fn after_job<R: Wait>(&mut self, _rt: &R, _entry: &Entry, _answer: &Answer) -> bool {
+    fn after_job<R: Wait>(
+        &mut self,
+        _rt: &R,
+        _load: Load,
+        _entry: &Entry,
+        _answer: &Answer,
+    ) -> bool {
         true
     }
 }

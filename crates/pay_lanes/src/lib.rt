@@ -16,7 +16,7 @@ mod sending;
 mod worker;
 
 pub use ending::{EndFault, Ended, end, put_in_order};
-pub use gate::{Gate, OpenGate};
+pub use gate::{Gate, Load, OpenGate};
 pub use lane::{Lane, SendFault};
 pub use opening::{OpenLanesFault, Opened, open};
 pub use outgoing::Outgoing;

@@ -10,7 +10,7 @@ ghost use Rattle.pay_lanes.specs.Working.{HasItem, IsOfferable, AreTold, mailbox
 ghost use Rattle.pay_lanes.specs.declared.limits.TheConstants.{MOST_JOURNALS};
 ghost use Rattle.pay_lanes.specs.declared.worker.Turn.TheVariants as turns;
 
-use crate::gate::Gate;
+use crate::gate::{Gate, Load};
 use crate::outgoing::Outgoing;
 use crate::senders::{ByLane, ByShard};
 use crate::sending::send_at;
@@ -126,14 +126,15 @@ fn offer_held<R: Wait>(
     }
 }
 
-/// Passes the gate with an entry that was popped, and answers it. The answer comes back if its lane had no room for it, or if
-/// the gate did not let it pass: then the worker is shut.
+/// Passes the gate with an entry that was popped, after which so many waited, and answers it. The answer comes back if its lane had no
+/// room for it, or if the gate did not let it pass: then the worker is shut.
 fn answer<F: Fares, G: Gate, R: Wait>(
     rt: &R,
     shard: &mut Shard<F>,
     gate: &mut G,
     lanes: &mut Vec<Outbox<Answer, ByShard>>,
     entry: Entry,
+    waiting: usize,
     shut: &mut bool,
 ) -> Option<Outgoing>
     requires room { 0 < shard.old.memory.room }
@@ -151,8 +152,9 @@ fn answer<F: Fares, G: Gate, R: Wait>(
 {
     gate.before_job(rt, shard.number(), &entry);
     let answer = shard.apply(entry);
+    let accounts = shard.accounts();
     let lane = entry.lane;
-    if !gate.after_job(rt, &entry, &answer) {
+    if !gate.after_job(rt, Load { accounts, waiting }, &entry, &answer) {
         *shut = true;
         return Some(Outgoing { lane, answer });
     }
@@ -241,8 +243,9 @@ impl<F: Fares, G: Gate> Worker<F, G> {
         let Some(entry) = requests.receive(rt) else {
             return Turn::Idle;
         };
+        let waiting = requests.waiting(rt);
         let place = shard.journal().len();
-        *held = answer(rt, shard, gate, lanes, entry, shut);
+        *held = answer(rt, shard, gate, lanes, entry, waiting, shut);
         Turn::Did(place)
     }
 }

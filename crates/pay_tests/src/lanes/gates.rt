@@ -1,6 +1,6 @@
 //! Gates that count, and wait until a count is high enough.
 
-use pay_lanes::Gate;
+use pay_lanes::{Gate, Load};
 use pay_shard::{Answer, Entry};
 use std::process::Abort;
 use std::sync::atomic::{AtomicU64, Ordering};
@@ -27,6 +27,9 @@ pub struct Counts {
     opened: Count,
     // How many entries had to pass a gate that did not open.
     ran_out: Count,
+    // What a worker had on hand at its last answer.
+    accounts: Count,
+    waiting: Count,
 }
 
 impl Counts {
@@ -36,6 +39,8 @@ impl Counts {
             entered: new_count(rt),
             opened: new_count(rt),
             ran_out: new_count(rt),
+            accounts: new_count(rt),
+            waiting: new_count(rt),
         }
     }
 
@@ -46,6 +51,8 @@ impl Counts {
             opened: same_count(rt, &entered),
             entered,
             ran_out: new_count(rt),
+            accounts: new_count(rt),
+            waiting: new_count(rt),
         }
     }
 
@@ -55,6 +62,8 @@ impl Counts {
             entered: same_count(rt, &self.entered),
             opened: same_count(rt, &self.opened),
             ran_out: same_count(rt, &self.ran_out),
+            accounts: same_count(rt, &self.accounts),
+            waiting: same_count(rt, &self.waiting),
         }
     }
 
@@ -66,6 +75,12 @@ impl Counts {
     /// How many entries had to pass a gate that did not open.
     pub fn ran_out(&self) -> u64 {
         self.ran_out.load(Ordering::SeqCst)
+    }
+
+    /// How many accounts a worker had at its last answer, and how many entries waited then.
+    pub fn load(&self) -> (u64, u64) {
+        let accounts = self.accounts.load(Ordering::SeqCst);
+        (accounts, self.waiting.load(Ordering::SeqCst))
     }
 
     /// Waits until a gate was passed with an entry.
@@ -143,7 +158,19 @@ impl Gate for Counting {
         }
     }
 
-    fn after_job<R: Wait>(&mut self, _rt: &R, _entry: &Entry, _answer: &Answer) -> bool {
+    fn after_job<R: Wait>(
+        &mut self,
+        _rt: &R,
+        load: Load,
+        _entry: &Entry,
+        _answer: &Answer,
+    ) -> bool {
+        self.counts
+            .accounts
+            .store(load.accounts as u64, Ordering::SeqCst);
+        self.counts
+            .waiting
+            .store(load.waiting as u64, Ordering::SeqCst);
         if self.passes == 0 {
             return false;
         }

@@ -5,7 +5,7 @@ ghost use Rattle.pay_lanes.specs.Words.{IsSameLane, IsSameWorker, AreTogether};
 use crate::given::expect_same;
 use crate::lanes::given::{add_last, bus_tap, one_route, pence, sent, take_last};
 use pay_book::Book;
-use pay_lanes::{Ended, Gate, Lane, Opened, Turn, Worker, end, laws, open};
+use pay_lanes::{Ended, Gate, Lane, Load, Opened, Turn, Worker, end, laws, open};
 use pay_rules::Fares;
 use pay_shard::{Answer, Entry, Journal, Shard};
 use pay_tables::Editions;
@@ -52,7 +52,13 @@ impl Gate for Yielding {
         }
     }
 
-    fn after_job<R: Wait>(&mut self, _rt: &R, _entry: &Entry, _answer: &Answer) -> bool {
+    fn after_job<R: Wait>(
+        &mut self,
+        _rt: &R,
+        _load: Load,
+        _entry: &Entry,
+        _answer: &Answer,
+    ) -> bool {
         true
     }
 }

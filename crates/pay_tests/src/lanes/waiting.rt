@@ -1,8 +1,8 @@
 //! What waits, and what is refused while it does.
 
 use crate::given::expect_same;
-use crate::lanes::gates::{Counting, passing};
-use crate::lanes::given::{due, gates, one_route, opened, sent, taken};
+use crate::lanes::gates::{Counting, Counts, gates as counting, passing};
+use crate::lanes::given::{bus_tap, due, gates, one_route, opened, sent, taken};
 use pay_book::Book;
 use pay_lanes::{Gate, Lane, OpenGate, OpenLanesFault, Opened, SendFault, Turn, Worker, open};
 use pay_rules::Fares;
@@ -137,4 +137,52 @@ fn nothing_after_an_answer_that_is_held(rt: HostRuntime) {
         .expect(&rt, "memory");
     let worker: &mut Worker<Book, Counting> = workers.first_mut().expect(&rt, "a worker");
     be_held(&rt, worker, &mut lanes);
+}
+
+// Takes a turn, and compares what its gate is told of accounts and of entries that wait.
+fn expect_load<F: Fares, R: Abort + Wait>(
+    rt: &R,
+    worker: &mut Worker<F, Counting>,
+    counts: &Counts,
+    wanted: (u64, u64),
+) {
+    let _ = worker.turn(rt);
+    expect_same(rt, counts.load(), wanted);
+}
+
+// Of four commands two open an account, one asks of a third, and one is again of the first.
+fn expect_loads<F: Fares, R: Abort + Wait>(
+    rt: &R,
+    worker: &mut Worker<F, Counting>,
+    lane: &mut Lane,
+    counts: &Counts,
+) {
+    let _ = sent(rt, lane, bus_tap(rt, 7, 1, 0));
+    let _ = sent(rt, lane, bus_tap(rt, 9, 2, 0));
+    let _ = sent(rt, lane, due(rt, 11));
+    let _ = sent(rt, lane, bus_tap(rt, 7, 1, 7_200));
+    expect_load(rt, worker, counts, (1, 3));
+    expect_load(rt, worker, counts, (2, 2));
+    expect_load(rt, worker, counts, (2, 1));
+    expect_load(rt, worker, counts, (2, 0));
+}
+
+#[test]
+fn a_gate_is_told_the_load(rt: HostRuntime) {
+    let counts = Counts::new(&rt);
+    let Opened {
+        mut workers,
+        mut lanes,
+    } = open(
+        rt.alloc(),
+        one_route(&rt),
+        1,
+        1,
+        counting(&rt, &counts, &[0], Some(1)),
+    )
+    .ok()
+    .expect(&rt, "memory");
+    let worker: &mut Worker<Book, Counting> = workers.first_mut().expect(&rt, "a worker");
+    let lane = lanes.first_mut().expect(&rt, "a lane");
+    expect_loads(&rt, worker, lane, &counts);
 }

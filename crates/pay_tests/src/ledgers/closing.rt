@@ -8,7 +8,7 @@ use crate::ledgers::ledger::{empty_ledger, expect_net, expect_rows};
 use crate::ledgers::lines::{expect_closed, expect_lines, expect_run};
 use pay_book::Book;
 use pay_close::{NotClosed, close};
-use pay_lanes::{Gate, Lane, laws};
+use pay_lanes::{Gate, Lane, Load, laws};
 use pay_ledger::Ledger;
 use pay_office::{Ended, LaneDesk, Office, shut, start};
 use pay_rules::{Fares, Posting, Postings, Quote};
@@ -109,7 +109,13 @@ impl Gate for Counting {
         self.look();
     }
 
-    fn after_job<R: Wait>(&mut self, _rt: &R, _entry: &Entry, _answer: &Answer) -> bool {
+    fn after_job<R: Wait>(
+        &mut self,
+        _rt: &R,
+        _load: Load,
+        _entry: &Entry,
+        _answer: &Answer,
+    ) -> bool {
         true
     }
 }

@@ -45,6 +45,6 @@ answer-requires-clause-told g c =
 
 pub returns-clause-did : goal.returns-clause-did
 returns-clause-did g c place did =
-    subst (λ v. HasDone v place (record { shard = c.answer.new.shard; requests = c.receive.new.self; lanes = c.answer.new.lanes.items; held = c.answer.result; shut = c.answer.new.shut; began = g.G.Gate.began c.answer.new.gate })) c.self.view_is
-    (done (record { shard = c.self.inside.shard; requests = c.self.inside.requests; lanes = c.self.inside.lanes.items; held = c.self.inside.held; shut = c.self.inside.shut; began = g.G.Gate.began c.self.inside.gate }) c.make_room.new.shard c.answer.new.shard c.receive.new.self c.answer.new.lanes.items c.answer.result c.answer.new.shut (g.G.Gate.began c.answer.new.gate) c.in-Some.entry c.make_room.new.shard.memory c.len-place.result place
-    c.make_room.ensures.same c.answer.ensures.item c.in-Some.ensures.got (c.len-place.ensures ∙ ap length c.journal.ensures.value) did)
+    subst (λ v. HasDone v place (record { shard = c.answer.new.shard; requests = c.waiting-waiting.new.self; lanes = c.answer.new.lanes.items; held = c.answer.result; shut = c.answer.new.shut; began = g.G.Gate.began c.answer.new.gate })) c.self.view_is
+    (done (record { shard = c.self.inside.shard; requests = c.self.inside.requests; lanes = c.self.inside.lanes.items; held = c.self.inside.held; shut = c.self.inside.shut; began = g.G.Gate.began c.self.inside.gate }) c.make_room.new.shard c.answer.new.shard c.waiting-waiting.new.self c.answer.new.lanes.items c.answer.result c.answer.new.shut (g.G.Gate.began c.answer.new.gate) c.in-Some.entry c.make_room.new.shard.memory c.len-place.result place
+    c.make_room.ensures.same c.answer.ensures.item (c.waiting-waiting.ensures.same ∙ c.in-Some.ensures.got) (c.len-place.ensures ∙ ap length c.journal.ensures.value) did)
