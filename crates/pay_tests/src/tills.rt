@@ -110,12 +110,18 @@ impl Till for Prepared<'_> {
 
     ghost Closes = { λ before day of put result after. put ≡ [] };
 
+    ghost Opens = { λ before day of put result after. ⊤ };
+
     fn close<D: Desk>(&mut self, _: &mut D, _: u32) -> Result<Postings, Refusal> {
         self.closes = self.closes.saturating_add(1);
         match self.postings.take() {
             Some(postings) => Ok(postings),
             None => Err(self.next_fault()),
         }
+    }
+
+    fn open<D: Desk>(&mut self, _: &mut D, _: u32) -> Result<u64, Refusal> {
+        Err(Refusal::NotHere)
     }
 }
 

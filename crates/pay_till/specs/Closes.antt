@@ -1,5 +1,5 @@
 -- What a close asks of a desk, and how it may be refused.
-use Rattle.std.specs.Prelude.{◌≡◌, ◌⊎◌, ℕ, ◌<◌, suc, Bool, true, false, not, List, [], ◌∷◌, ◌++◌, length, Option, Some, None, IfNone, Result, Err, IsTrue, IfErr, ⊤, refl}
+use Rattle.std.specs.Prelude.{◌≡◌, ◌⊎◌, ℕ, ◌<◌, suc, Bool, true, false, not, List, [], ◌∷◌, ◌++◌, length, Option, Some, None, IfNone, Result, Ok, Err, IsTrue, IfErr, ⊤, refl}
 use Rattle.std.specs.List.{AllByRecursion, list_any}
 use Rattle.pay_rules.specs.declared.posting.Posting.{Posting}
 use Rattle.pay_shard.specs.declared.asked.Asked.{Asked}
@@ -44,6 +44,26 @@ is_of_close _ = false
 -- that a reply did not come in time is no refusal of a close
 not_late : is_of_close refusal.Late ≡ false
 not_late = refl
+
+-- What the close comes to whose quotes are only counted, by the answer: it is refused where nothing is closed here, or where the desk, the
+-- store or memory failed; else it is put off.
+abbrev pub put_off : Result ℕ Refusal → Result (List Posting) Refusal
+put_off (Err refusal.NotHere) = Err refusal.NotHere
+put_off (Err refusal.DeskFault) = Err refusal.DeskFault
+put_off (Err refusal.Store) = Err refusal.Store
+put_off (Err refusal.Memory) = Err refusal.Memory
+put_off _ = Err refusal.NotOver
+
+-- two accounts are open
+two_are_open : put_off (Ok 2) ≡ Err refusal.NotOver
+two_are_open = refl
+
+-- a posting is none, which the ledger says, and the close does not
+bad_posting : put_off (Err refusal.BadArchive) ≡ Err refusal.NotOver
+bad_posting = refl
+
+failed_store : put_off (Err refusal.Store) ≡ Err refusal.Store
+failed_store = refl
 
 -- With `Refuses` for how a desk may refuse a command, and `Late` for whether a reply of it may be late.
 module _ (Refuses : DeskFault → Type 0) (Late : Type 0) where
