@@ -38,7 +38,7 @@ module _ (zone : TimeZone) where
   by_request requests.BadLine a spelled is = absurd (cc)
   by_request requests.LongLine a spelled is = absurd (cc)
 
-  by_close : (day of from : ℕ) (put : List Taken) → AreQuotes day of from put → AreAllAskedIn zone (commands_of put)
+  pub by_close : (day of from : ℕ) (put : List Taken) → AreQuotes day of from put → AreAllAskedIn zone (commands_of put)
   by_close day of from [] quotes = tt
   by_close day of from (t ∷ ts) quotes = (subst (IsAskedIn zone) (sym quotes.1) tt, by_close day of (suc from) ts quotes.2)
 

@@ -1,21 +1,37 @@
 -- What was answered at a port, for one peer after another, as one answering.
-use Rattle.std.proofs.Common.{◌≡◌, ℕ, List, [], ◌∷◌, ◌++◌, Result, refl, sym, ap, ◌∙◌, subst, append_assoc, append-nil}
+use Rattle.std.proofs.Common.{◌≡◌, ℕ, List, [], ◌∷◌, ◌++◌, Result, refl, sym, ap, ◌∙◌, subst, append_assoc, append-nil, None}
 use Rattle.jiff.specs.declared.tz.timezone.TimeZone.{TimeZone}
 use Rattle.pay_rules.specs.declared.posting.Posting.{Posting}
 use Rattle.pay_shard.specs.Words.{DeskParts, Standing}
-use Rattle.pay_till.specs.Words.{Taken, commands_of, AreAnswered, MaySometimeRefuse, MaySometimeBeLate}
+use Rattle.pay_till.specs.Words.{Taken, commands_of, AreAnswered, AreQuotes, MaySometimeRefuse, MaySometimeBeLate}
 use Rattle.pay_wire.specs.declared.refusal.Refusal.{Refusal}
-use Rattle.pay_session.specs.AtPorts.{IsServedAt, AreServedAt, HasAnsweredAt, AnswersNobody, AnswersOn}
-use Rattle.pay_session.specs.Events.{Event, all_put}
-use Rattle.pay_session.specs.Ports.{asks_at}
-use Rattle.pay_session.specs.Served.{AreServedBy}
+use Rattle.pay_session.specs.AtPorts.{IsServedAt, AreServedAt, HasAnsweredAt, AnswersNobody, AnswersOn, AnswersClose}
+use Rattle.pay_session.specs.Asks.{asks_of}
+use Rattle.pay_session.specs.Events.{Event, all_put, said_of_close}
+use Rattle.pay_session.specs.Ports.{asks_at, AreAskedAt}
+use Rattle.pay_session.specs.Served.{AreServedBy, IsServedAs}
 use Rattle.pay_session.specs.SessionSteps.{Ran}
 use Rattle.pay_session.specs.declared.port.Port.{Port}
+use Rattle.pay_session.specs.declared.asks.Asks.{Asks}
+use Rattle.pay_session.specs.declared.asks.Asks.TheVariants as asks
 use Rattle.pay_session.specs.declared.port.Role.{Role}
+use Rattle.pay_session.specs.declared.port.Role.TheVariants.{All}
 use Rattle.pay_session.specs.declared.request.Request.{Request}
+use Rattle.pay_session.specs.declared.request.Request.TheVariants as requests
 use Rattle.pay_session.specs.declared.service.Service.{Service}
-use Rattle.pay_session.proofs.AskedAt.{at_none, at_then}
+use Rattle.pay_shard.specs.declared.asked.Asked.{Asked}
+use Rattle.pay_wire.specs.declared.command.SpelledCommand.TheVariants as command
+use Rattle.pay_session.proofs.AskedAt.{at_none, at_then, at_close}
 use Rattle.pay_session.proofs.OverDesk.{Serves, ran, asked_at, commands_both, answered_both, answered_kept}
+
+-- a port of staff in a zone
+abbrev staff : TimeZone → Port
+staff zone = record { zone = record { ref_ptr = (0, 0); now = zone }; role = All; latest = None }
+
+-- a CLOSE comes to a close there
+closes_there : (zone : TimeZone) (day : ℕ) → asks_at (staff zone) (requests.Command (command.Close day)) ≡ asks.Close day
+unfolding asks_at asks_of
+closes_there zone day = refl
 
 put_both : (es fs : List Event) → all_put (es ++ fs) ≡ all_put es ++ all_put fs
 put_both [] fs = refl
@@ -79,3 +95,27 @@ module _ {D O T : Type 0} (parts : D → DeskParts O) (Closes : T → ℕ → �
     kept = λ ticket answer h. second.kept ticket answer (first.kept ticket answer h);
     same = second.same ∙ first.same;
   }
+
+  pub answers_close : AnswersClose parts Closes
+  answers_close zone day result desk desk' till till' closed kept same =
+      let event : Event = record { reply = said_of_close day result; put = closed.put } in
+      let one : all_put (event ∷ []) ≡ closed.put = append-nil closed.put in
+      record {
+        requests = requests.Command (command.Close day) ∷ [];
+        events = event ∷ [];
+        served = (
+          till',
+          record {
+            at = staff zone;
+            is = (refl, refl);
+            served = subst (λ what. IsServedAs (parts desk).standing.shards (MaySometimeRefuse parts (parts desk).standing) (MaySometimeBeLate parts (parts desk).standing) Closes what event till till') (sym (closes_there zone day))
+                (record { result = result; close = closed.close; told = refl });
+          },
+          refl,
+        );
+        taken = closed.added ∙ ap (λ l. (parts desk).taken ++ commands_of l) (sym one);
+        said = subst (AreAnswered (parts desk').transcript) (sym one) closed.answered;
+        asked = at_close zone day (parts desk).standing.shards closed.put (parts desk).taken (parts desk').taken closed.close.quotes closed.added;
+        kept = kept;
+        same = same;
+      }

@@ -109,7 +109,7 @@ pub allowed_both : (role : Role) (ts us : List (ℕ × Asked)) → AreAllAllowed
 allowed_both role [] us first rest = rest
 allowed_both role (t ∷ ts) us first rest = (first.0, allowed_both role ts us first.1 rest)
 
-allowed_all : (role : Role) → ((a : Asked) → IsAllowed role a) → (put : List Taken) → AreAllAllowed role (commands_of put)
+pub allowed_all : (role : Role) → ((a : Asked) → IsAllowed role a) → (put : List Taken) → AreAllAllowed role (commands_of put)
 allowed_all role all [] = tt
 allowed_all role all (t ∷ ts) = (all t.asked, allowed_all role all ts)
 

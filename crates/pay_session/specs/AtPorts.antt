@@ -3,13 +3,14 @@ use Rattle.std.specs.Prelude.{◌≡◌, ℕ, List, [], ◌∷◌, ◌++◌, Res
 use Rattle.jiff.specs.declared.tz.timezone.TimeZone.{TimeZone}
 use Rattle.pay_rules.specs.declared.posting.Posting.{Posting}
 use Rattle.pay_shard.specs.Words.{DeskParts, NothingIsLost, Standing}
-use Rattle.pay_till.specs.Words.{Taken, commands_of, AreAnswered, MaySometimeRefuse, MaySometimeBeLate}
+use Rattle.pay_till.specs.Words.{Taken, commands_of, AreAnswered, IsClosedAt, MaySometimeRefuse, MaySometimeBeLate}
 use Rattle.pay_wire.specs.declared.refusal.Refusal.{Refusal}
 use Rattle.pay_session.specs.Events.{Event, all_put}
 use Rattle.pay_session.specs.Ports.{asks_at, AreAskedAt}
 use Rattle.pay_session.specs.Served.{IsServedAs}
 use Rattle.pay_session.specs.declared.port.Port.{Port}
 use Rattle.pay_session.specs.declared.port.Role.{Role}
+use Rattle.pay_session.specs.declared.port.Role.TheVariants.{All}
 use Rattle.pay_session.specs.declared.request.Request.{Request}
 
 -- a port of a zone for a role, whatever the last instant of a tap there
@@ -50,3 +51,10 @@ module _ {D O T : Type 0} (parts : D → DeskParts O) (Closes : T → ℕ → �
   abbrev pub AnswersOn : Type 0
   AnswersOn = (port : TimeZone × Role) (desk desk' desk'' : D) (till till' till'' : T)
       → HasAnsweredAt port (desk, till) (desk', till') → HasAnsweredAt port (desk', till') (desk'', till'') → HasAnsweredAt port (desk, till) (desk'', till'')
+
+  -- where a till closed a day over the desk, or put that off, the CLOSE of that day was answered at a port of staff
+  abbrev pub AnswersClose : Type 0
+  AnswersClose = (zone : TimeZone) (day : ℕ) (result : Result (List Posting) Refusal) (desk desk' : D) (till till' : T)
+      → IsClosedAt parts desk desk' day (λ of put answer. Closes till day of put answer till') result
+      → NothingIsLost (parts desk).transcript (parts desk').transcript → (parts desk').standing ≡ (parts desk).standing
+      → HasAnsweredAt (zone, All) (desk, till) (desk', till')

@@ -6,7 +6,7 @@ pub use Rattle.pay_session.specs.AskedFor.{IsAskedIn, AreAllAskedIn}
 unfoldable pub use Rattle.pay_session.specs.AskedFor.{AreAskedIn}
 pub use Rattle.pay_session.specs.Ports.{is_allowed, is_ahead, asks_at, IsOpen, IsAllowed, AreAllAllowed}
 unfoldable pub use Rattle.pay_session.specs.Ports.{AreAskedAt}
-pub use Rattle.pay_session.specs.AtPorts.{IsPortOf, IsServedAt, AreServedAt, HasAnsweredAt, AnswersNobody, AnswersOn}
+pub use Rattle.pay_session.specs.AtPorts.{IsPortOf, IsServedAt, AreServedAt, HasAnsweredAt, AnswersNobody, AnswersOn, AnswersClose}
 pub use Rattle.pay_session.specs.Pieces.{IsAfter, AreAnsweredAt, TakesPiece, TakesThroughQuit, StopsInPiece, EndsPieces, StopsAtEnd}
 pub use Rattle.pay_session.specs.Calls.{ReaderCall, ShowsNothing, FailsBy, IsLastFill, HasNoEnd}
 pub use Rattle.pay_session.specs.Events.{Event, refusal_of, refusal_of_desk, said, said_of_close, text_of, all_put, lacks_memory, any_lacks_memory}

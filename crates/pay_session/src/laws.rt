@@ -5,7 +5,7 @@ ghost use Rattle.std.specs.List.{AllByRecursion, flat_map};
 ghost use Rattle.pay_wire.specs.declared.command.SpelledCommand.TheVariants.{Quit};
 ghost use Rattle.pay_wire.specs.declared.limits.TheConstants.{MOST_LINE_BYTES};
 ghost use Rattle.pay_session.specs.declared.request.Request.TheVariants as requests;
-ghost use Rattle.pay_session.specs.AtPorts.{AnswersNobody, AnswersOn};
+ghost use Rattle.pay_session.specs.AtPorts.{AnswersNobody, AnswersOn, AnswersClose};
 ghost use Rattle.pay_session.specs.Pieces.{IsAfter};
 ghost use Rattle.pay_session.specs.Requests.{InputLine, input_lines, rest_of, has_newline, request_of, line_requests, requests_of, quits, unread, HasOneCutting, IsReadByLine, SpellsNothing};
 
@@ -66,4 +66,10 @@ pub fn piece_by_piece<D: Desk, T: Till>()
     ensures first { IsAfter [] [] }
     ensures none { AnswersNobody D.parts T.Closes }
     ensures after { AnswersOn D.parts T.Closes }
+{}
+
+/// Where a till closes a day over a desk, or puts that off, one request is answered: the `CLOSE` of that day, at a port of staff. So it is of
+/// whatever else a till does that asks for no more.
+pub fn close_is_answered<D: Desk, T: Till>()
+    ensures { AnswersClose D.parts T.Closes }
 {}

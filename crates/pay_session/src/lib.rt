@@ -23,6 +23,6 @@ pub use cutting::cut;
 pub use known_reader::KnownReader;
 pub use port::{Port, Role, asks_at};
 pub use request::{Request, request_of};
-pub use service::reply_of;
+pub use service::{refusal_of_desk, reply_of, said};
 pub use sessions::{Done, session};
 pub use stop::SessionFault;

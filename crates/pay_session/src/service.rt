@@ -101,7 +101,7 @@ fn close<D: Desk, T: Till>(till: &mut T, desk: &mut D, day: u32) -> SpelledReply
 }
 
 /// A desk's reply, as a line says it.
-fn said(reply: pay_shard::Reply) -> SpelledReply
+pub fn said(reply: pay_shard::Reply) -> SpelledReply
     ensures { result ≡ said reply }
 {
     match reply {
@@ -128,7 +128,7 @@ fn refusal_of(why: pay_shard::ShardRefusal) -> Refusal
 }
 
 /// A desk's fault, as a line says it.
-fn refusal_of_desk(fault: DeskFault) -> Refusal
+pub fn refusal_of_desk(fault: DeskFault) -> Refusal
     ensures { result ≡ refusal_of_desk fault }
 {
     match fault {
