@@ -34,6 +34,10 @@ pub trait Keeper: Drop {
         ensures same { Keeps (holds self.old) (holds self.new) }
         ensures settled { OnOk result (IsSettled self.new) }
         ensures failed { OnErr result (HasFailed self.new) };
+
+    /// Learns how much its shard has on hand: how many accounts have accepted something, and how many entries wait. It may tell others;
+    /// nothing that it holds changes.
+    fn tell(&self, accounts: usize, waiting: usize);
 }
 
 /// A keeper that keeps nothing. It does not fail.
@@ -56,4 +60,6 @@ impl Keeper for NoKeeper {
     fn settle(&mut self) -> Result<(), NotKept> {
         Ok(())
     }
+
+    fn tell(&self, _: usize, _: usize) {}
 }

@@ -140,4 +140,6 @@ impl<W: Lasting + KnownWriter> Keeper for LineKeeper<W> {
     fn settle(&mut self) -> Result<(), NotKept> {
         LineKeeper::settle(self)
     }
+
+    fn tell(&self, _: usize, _: usize) {}
 }
