@@ -1,6 +1,7 @@
 -- How the lines of a replay join.
-use Rattle.std.proofs.Common.{◌≡◌, ℕ, ◌+◌, ◌-◌, ◌≤◌, suc, false, List, [], ◌∷◌, ◌++◌, length, Option, Some, None, Result, sym, ap, ◌∙◌, subst, refl, arith, append_assoc, append-nil, length-append, inl, inr}
-use Rattle.std.specs.Prelude.{IfSome}
+use Rattle.std.proofs.Common.{◌≡◌, ℕ, ◌+◌, ◌-◌, ◌≤◌, ◌<◌, suc, false, List, [], ◌∷◌, ◌++◌, length, Option, Some, None, Result, sym, ap, ◌∙◌, subst, refl, arith, append_assoc, append-nil, length-append, inl, inr}
+use Rattle.std.specs.Prelude.{IfSome, Bool}
+use Rattle.std.specs.Option.{is_some}
 use Rattle.std.specs.List.{AllByRecursion}
 use Rattle.std.proofs.lemmas.Grind.{flat_map-append}
 use Rattle.std.proofs.lemmas.List.{map-append}
@@ -16,7 +17,8 @@ use Rattle.pay_wire.specs.declared.reply.SpelledReply.TheVariants as replies
 use Rattle.pay_session.specs.Asks.{asks_of}
 use Rattle.pay_session.specs.Events.{Event, all_put}
 use Rattle.pay_till.specs.Words.{Taken, commands_of, IsAnswerTo, AreAnswered, MaySometimeRefuse, MaySometimeBeLate}
-use Rattle.pay_journal.specs.Replays.{is_barred, IsPriced, why_ended, ClosesNothing, IsReplayStep, IsFaultOf, AreHanded, AreAccepted, IsReplayed, IsEndedAt, IsEnded}
+use Rattle.pay_journal.specs.Replays.{is_barred, IsPriced, why_ended, ClosesNothing, IsReplayStep, IsFaultOf, AreHanded, AreAccepted, IsReplayed, IsEndedBy, IsEndedAt, IsUnderway, IsStepBy, IsEnded}
+use Rattle.pay_journal.specs.declared.limits.TheConstants.{MOST_AHEAD}
 use Rattle.pay_session.specs.Requests.{has_newline, line_requests, request_of, rest_of, IsReadByLine}
 use Rattle.pay_session.specs.Served.{IsServedAs, AreServed}
 use Rattle.pay_session.specs.Serving.{IsStep}
@@ -27,14 +29,14 @@ use Rattle.pay_session.specs.declared.request.Request.{Request}
 
 -- ---- what was taken
 
-commands_both : (ts us : List Taken) → commands_of (ts ++ us) ≡ commands_of ts ++ commands_of us
+pub commands_both : (ts us : List Taken) → commands_of (ts ++ us) ≡ commands_of ts ++ commands_of us
 commands_both ts us = map-append (λ (t : Taken). (t.ticket, t.asked)) ts us
 
-answered_both : (transcript : ℕ → Option Answer) (ts us : List Taken) → AreAnswered transcript ts → AreAnswered transcript us → AreAnswered transcript (ts ++ us)
+pub answered_both : (transcript : ℕ → Option Answer) (ts us : List Taken) → AreAnswered transcript ts → AreAnswered transcript us → AreAnswered transcript (ts ++ us)
 answered_both transcript [] us f g = g
 answered_both transcript (t ∷ ts) us f g = (f.0, answered_both transcript ts us f.1 g)
 
-answered_still : (old new : ℕ → Option Answer) (ts : List Taken) → NothingIsLost old new → AreAnswered old ts → AreAnswered new ts
+pub answered_still : (old new : ℕ → Option Answer) (ts : List Taken) → NothingIsLost old new → AreAnswered old ts → AreAnswered new ts
 answered_still old new [] kept f = tt
 answered_still old new (t ∷ ts) kept f = (its t.answer f.0, answered_still old new ts kept f.1)
   where
@@ -44,10 +46,17 @@ answered_still old new (t ∷ ts) kept f = (its t.answer f.0, answered_still old
 
 -- ---- one event more
 
-all_put_one : (es : List Event) (e : Event) → all_put (es ++ e ∷ []) ≡ all_put es ++ e.put
+pub all_put_one : (es : List Event) (e : Event) → all_put (es ++ e ∷ []) ≡ all_put es ++ e.put
 all_put_one es e = flat_map-append (λ (e : Event). e.put) es (e ∷ []) ∙ ap (λ l. all_put es ++ l) (append-nil e.put)
 
-all_one : {X : Type 0} (P : X → Type 0) (xs : List X) (x : X) → AllByRecursion P xs → P x → AllByRecursion P (xs ++ x ∷ [])
+all_put_both : (es more : List Event) → all_put (es ++ more) ≡ all_put es ++ all_put more
+all_put_both es more = flat_map-append (λ (e : Event). e.put) es more
+
+pub all_both : {X : Type 0} (P : X → Type 0) (xs ys : List X) → AllByRecursion P xs → AllByRecursion P ys → AllByRecursion P (xs ++ ys)
+all_both P [] ys f g = g
+all_both P (x ∷ xs) ys f g = (f.0, all_both P xs ys f.1 g)
+
+pub all_one : {X : Type 0} (P : X → Type 0) (xs : List X) (x : X) → AllByRecursion P xs → P x → AllByRecursion P (xs ++ x ∷ [])
 all_one P [] x f g = (g, tt)
 all_one P (y ∷ ys) x f g = (f.0, all_one P ys x f.1 g)
 
@@ -59,11 +68,24 @@ module _ {T : Type 0} (of : ℕ) (Refuses : DeskFault → Type 0) (Late : Type 0
   served_one (x ∷ rs) [] a b c r e f g = absurd f
   served_one (x ∷ rs) (y ∷ es) a b c r e f g = (f.0, f.1, served_one rs es f.0 b c r e f.2 g)
 
+  served_both : (rs : List Request) (es : List Event) (others : List Request) (more : List Event) (a b c : T) → AreServed of Refuses Late Closes zone a rs es b → AreServed of Refuses Late Closes zone b others more c
+      → AreServed of Refuses Late Closes zone a (rs ++ others) (es ++ more) c
+  served_both [] [] others more a b c f g = subst (λ t. AreServed of Refuses Late Closes zone t others more c) f g
+  served_both [] (e ∷ es) others more a b c f g = absurd f
+  served_both (r ∷ rs) [] others more a b c f g = absurd f
+  served_both (r ∷ rs) (e ∷ es) others more a b c f g = (f.0, f.1, served_both rs es others more f.0 b c f.2 g)
+
+  served_many : (rs : List Request) (es : List Event) (a b : T) → AreServed of Refuses Late Closes zone a rs es b → length rs ≡ length es
+  served_many [] [] a b f = refl
+  served_many [] (e ∷ es) a b f = absurd f
+  served_many (r ∷ rs) [] a b f = absurd f
+  served_many (r ∷ rs) (e ∷ es) a b f = ap suc (served_many rs es f.0 b f.2)
+
 no_none : (why : Refusal) → ◌≡◌ {A = Option Refusal} (Some why) None → ⊥
 no_none why e = cc
 
 -- what ends no replay is prices
-priced : (reply : SpelledReply) → why_ended reply ≡ None → IsPriced reply
+pub priced : (reply : SpelledReply) → why_ended reply ≡ None → IsPriced reply
 priced (replies.Priced p) e = (p, refl)
 priced (replies.No why) e = absurd (no_none why e)
 priced (replies.Due quote) e = absurd (no_none refusal.DeskFault e)
@@ -93,6 +115,9 @@ module _ {D O : Type 0} (parts : D → DeskParts O) where
   pub step_of : (before after : D) (a b : Asks) (ended : Option Refusal) → a ≡ b → IsReplayStep parts before after b ended → IsReplayStep parts before after a ended
   step_of before after a b ended is f = subst (λ (x : Asks). IsReplayStep parts before after x ended) (sym is) f
 
+as_many : {D O : Type 0} (parts : D → DeskParts O) (zone : TimeZone) (a b : D) (rs : List Request) (es : List Event) → AreHanded zone parts a b rs es → length rs ≡ length es
+as_many parts zone a b rs es f = served_many (parts a).standing.shards (MaySometimeRefuse parts (parts a).standing) (MaySometimeBeLate parts (parts a).standing) ClosesNothing zone rs es tt tt f.served
+
 module _ {D O : Type 0} (zone : TimeZone) (parts : D → DeskParts O) where
   handed_none : (desk : D) → AreHanded zone parts desk desk [] []
   handed_none desk = record { served = refl; taken = sym (append-nil (parts desk).taken); said = tt }
@@ -108,19 +133,7 @@ module _ {D O : Type 0} (zone : TimeZone) (parts : D → DeskParts O) where
         (answered_both (parts c).transcript (all_put es) e.put (answered_still (parts b).transcript (parts c).transcript (all_put es) g.kept f.said) g.said);
   }
 
-  -- So far: the lines before those ahead were accepted.
-  pub record IsUnderway (text : List ℕ) (before now : D) (ahead : List ℕ) (lines : ℕ) : Type 0 where
-    pub done : List Request
-    pub events : List Event
-    pub requests : line_requests text ≡ done ++ line_requests ahead
-    pub rest : rest_of text ≡ rest_of ahead
-    pub accepted : AreAccepted zone parts before now done events
-    pub counted : lines ≡ length done
-    pub fits : lines + length ahead ≤ length text
-    pub kept : NothingIsLost (parts before).transcript (parts now).transcript
-    pub same : (parts now).standing ≡ (parts before).standing
-
-  pub underway_none : (text : List ℕ) (desk : D) → IsUnderway text desk desk text 0
+  pub underway_none : (text : List ℕ) (desk : D) → IsUnderway zone parts desk desk text text 0
   underway_none text desk = record {
     done = [];
     events = [];
@@ -131,6 +144,20 @@ module _ {D O : Type 0} (zone : TimeZone) (parts : D → DeskParts O) where
     fits = omega arith;
     kept = λ ticket answer h. h;
     same = refl;
+  }
+
+  some_ahead : 0 < MOST_AHEAD
+  some_ahead = omega arith
+
+  handed_both : (a b c : D) (rs others : List Request) (es more : List Event) → (parts b).standing ≡ (parts a).standing → NothingIsLost (parts b).transcript (parts c).transcript
+      → AreHanded zone parts a b rs es → AreHanded zone parts b c others more → AreHanded zone parts a c (rs ++ others) (es ++ more)
+  handed_both a b c rs others es more same kept f g = record {
+    served = served_both (parts a).standing.shards (MaySometimeRefuse parts (parts a).standing) (MaySometimeBeLate parts (parts a).standing) ClosesNothing zone rs es others more tt tt tt f.served
+        (subst (λ (s : Standing O). AreServed s.shards (MaySometimeRefuse parts s) (MaySometimeBeLate parts s) ClosesNothing zone tt others more tt) same g.served);
+    taken = g.taken ∙ ap (λ l. l ++ commands_of (all_put more)) f.taken ∙ append_assoc (parts a).taken (commands_of (all_put es)) (commands_of (all_put more))
+        ∙ ap (λ l. (parts a).taken ++ l) (sym (commands_both (all_put es) (all_put more)) ∙ ap commands_of (sym (all_put_both es more)));
+    said = subst (AreAnswered (parts c).transcript) (sym (all_put_both es more))
+        (answered_both (parts c).transcript (all_put es) (all_put more) (answered_still (parts b).transcript (parts c).transcript (all_put es) kept f.said) g.said);
   }
 
   -- the line at the front of what is ahead
@@ -149,9 +176,9 @@ module _ {D O : Type 0} (zone : TimeZone) (parts : D → DeskParts O) where
       omega (arith, fits, ap length cut, size)
 
   -- it was accepted
-  underway_one : IsReadByLine → (text : List ℕ) (a b c : D) (ahead line beyond : List ℕ) (lines : ℕ) (event : Event) → IsUnderway text a b ahead lines → ahead ≡ line ++ 10 ∷ beyond → has_newline line ≡ false
+  underway_one : IsReadByLine → (text : List ℕ) (a b c : D) (ahead line beyond : List ℕ) (lines : ℕ) (event : Event) → IsUnderway zone parts a b text ahead lines → ahead ≡ line ++ 10 ∷ beyond → has_newline line ≡ false
       → is_barred (asks_of zone (request_of line)) ≡ false
-      → IsStep parts ClosesNothing (asks_of zone (request_of line)) event (b, tt) (c, tt) → IsPriced event.reply → IsUnderway text a c beyond (lines + 1)
+      → IsStep parts ClosesNothing (asks_of zone (request_of line)) event (b, tt) (c, tt) → IsPriced event.reply → IsUnderway zone parts a c text beyond (lines + 1)
   underway_one read text a b c ahead line beyond lines event u cut whole allowed step prices = record {
     done = u.done ++ request_of line ∷ [];
     events = u.events ++ event ∷ [];
@@ -168,33 +195,39 @@ module _ {D O : Type 0} (zone : TimeZone) (parts : D → DeskParts O) where
     same = step.same ∙ u.same;
   }
 
-  pub underway_line : IsReadByLine → (text : List ℕ) (a b c : D) (ahead line beyond : List ℕ) (lines : ℕ) (ended : Option Refusal) → IsUnderway text a b ahead lines → ahead ≡ line ++ 10 ∷ beyond
-      → has_newline line ≡ false → IsReplayStep parts b c (asks_of zone (request_of line)) ended → ended ≡ None → IsUnderway text a c beyond (lines + 1)
+  pub underway_line : IsReadByLine → (text : List ℕ) (a b c : D) (ahead line beyond : List ℕ) (lines : ℕ) (ended : Option Refusal) → IsUnderway zone parts a b text ahead lines → ahead ≡ line ++ 10 ∷ beyond
+      → has_newline line ≡ false → IsReplayStep parts b c (asks_of zone (request_of line)) ended → ended ≡ None → IsUnderway zone parts a c text beyond (lines + 1)
   underway_line read text a b c ahead line beyond lines ended u cut whole (inl step) none =
       underway_one read text a b c ahead line beyond lines step.0 u cut whole step.1 step.2 (priced step.0.reply (sym step.3 ∙ none))
   underway_line read text a b c ahead line beyond lines ended u cut whole (inr barred) none = absurd (no_none refusal.BadLine (sym barred.1 ∙ none))
 
   -- it was not
-  pub ended_at : IsReadByLine → (text : List ℕ) (a b c : D) (ahead line beyond : List ℕ) (lines : ℕ) (ended : Option Refusal) (why : Refusal) → IsUnderway text a b ahead lines → ahead ≡ line ++ 10 ∷ beyond
+  pub ended_at : IsReadByLine → (text : List ℕ) (a b c : D) (ahead line beyond : List ℕ) (lines : ℕ) (ended : Option Refusal) (why : Refusal) → IsUnderway zone parts a b text ahead lines → ahead ≡ line ++ 10 ∷ beyond
       → has_newline line ≡ false → IsReplayStep parts b c (asks_of zone (request_of line)) ended → ended ≡ Some why → IsEndedAt zone parts a c text (lines + 1) why
   ended_at read text a b c ahead line beyond lines ended why u cut whole (inl step) is = record {
     done = u.done;
     request = request_of line;
+    ahead = [];
     others = line_requests beyond;
     requests = first_ahead read text line ahead beyond u.done u.requests cut whole;
     counted = ap (λ n. n + 1) u.counted;
+    few = some_ahead;
     events = u.events;
+    each = sym (as_many parts zone a b u.done u.events u.accepted.0);
     unbarred = u.accepted.1;
     priced = u.accepted.2;
-    ended = inl (step.0, step.1, handed_one a b c u.done u.events (request_of line) step.0 u.accepted.0 u.same step.2, sym step.3 ∙ is);
+    ended = inl (step.0, [], step.1, handed_one a b c u.done u.events (request_of line) step.0 u.accepted.0 u.same step.2, sym step.3 ∙ is);
   }
   ended_at read text a b c ahead line beyond lines ended why u cut whole (inr barred) is = record {
     done = u.done;
     request = request_of line;
+    ahead = [];
     others = line_requests beyond;
     requests = first_ahead read text line ahead beyond u.done u.requests cut whole;
     counted = ap (λ n. n + 1) u.counted;
+    few = some_ahead;
     events = u.events;
+    each = sym (as_many parts zone a b u.done u.events u.accepted.0);
     unbarred = u.accepted.1;
     priced = u.accepted.2;
     ended = inr (barred.0, subst (λ (desk : D). AreHanded zone parts a desk u.done u.events) (sym barred.2) u.accepted.0, same_why (sym is ∙ barred.1));
@@ -203,6 +236,86 @@ module _ {D O : Type 0} (zone : TimeZone) (parts : D → DeskParts O) where
       same_why : ◌≡◌ {A = Option Refusal} (Some why) (Some refusal.BadLine) → why ≡ refusal.BadLine
       same_why e = cc
 
+  -- where no line was handed on
+  no_list : {X : Type 0} (xs : List X) → 0 ≡ length xs → xs ≡ []
+  no_list [] e = refl
+  no_list (x ∷ xs) e = absurd (omega (arith, e))
+
+  pub underway_still : (text : List ℕ) (a b : D) (left : List ℕ) (lines : ℕ) → IsUnderway zone parts a b text left lines → lines ≡ 0 → IsUnderway zone parts a b text text 0
+  underway_still text a b left lines u none = record {
+    done = u.done;
+    events = u.events;
+    requests = sym (ap (λ l. l ++ line_requests text) (no_list u.done (sym none ∙ u.counted)));
+    rest = refl;
+    accepted = u.accepted;
+    counted = sym none ∙ u.counted;
+    fits = omega arith;
+    kept = u.kept;
+    same = u.same;
+  }
+
+  pub handed_none_of : (text : List ℕ) (a b : D) (left : List ℕ) (lines : ℕ) (ended : Option Refusal) → IsStepBy zone parts a b text lines left ended → (some : Bool) → some ≡ is_some ended → some ≡ false → (0 < lines → ⊥) → IsUnderway zone parts a b text text 0
+  handed_none_of text a b left lines None step some is off none = underway_still text a b left lines step (omega (arith, none))
+  handed_none_of text a b left lines (Some why) step some is off none = absurd (cc)
+
+  pub all_taken : (a b : D) (text left : List ℕ) (lines : ℕ) (ended : Option Refusal) → IsStepBy zone parts a b text lines left ended → ended ≡ None → IsUnderway zone parts a b text left lines
+  all_taken a b text left lines ended step is = subst (IsStepBy zone parts a b text lines left) is step
+
+  pub one_ended : (a b : D) (text left : List ℕ) (lines : ℕ) (ended : Option Refusal) (why : Refusal) → IsStepBy zone parts a b text lines left ended → ended ≡ Some why → IsEndedAt zone parts a b text (lines + 1) why
+  one_ended a b text left lines ended why step is = subst (IsStepBy zone parts a b text lines left) is step
+
+  -- ---- what was handed on, after what was before
+
+  pub underway_both : (text : List ℕ) (a b c : D) (ahead left : List ℕ) (n m : ℕ) → IsUnderway zone parts a b text ahead n → IsUnderway zone parts b c ahead left m → IsUnderway zone parts a c text left (n + m)
+  underway_both text a b c ahead left n m u v = record {
+    done = u.done ++ v.done;
+    events = u.events ++ v.events;
+    requests = u.requests ∙ ap (λ l. u.done ++ l) v.requests ∙ sym (append_assoc u.done v.done (line_requests left));
+    rest = u.rest ∙ v.rest;
+    accepted = (
+      handed_both a b c u.done v.done u.events v.events u.same v.kept u.accepted.0 v.accepted.0,
+      all_both (λ (r : Request). is_barred (asks_of zone r) ≡ false) u.done v.done u.accepted.1 v.accepted.1,
+      all_both (λ (e : Event). IsPriced e.reply) u.events v.events u.accepted.2 v.accepted.2,
+    );
+    counted = (let both = length-append u.done v.done in omega (arith, u.counted, v.counted, both));
+    fits = omega (arith, u.fits, v.fits);
+    kept = λ ticket answer h. v.kept ticket answer (u.kept ticket answer h);
+    same = v.same ∙ u.same;
+  }
+
+  pub ended_both : (text : List ℕ) (a b c : D) (ahead : List ℕ) (n line : ℕ) (why : Refusal) → IsUnderway zone parts a b text ahead n → NothingIsLost (parts b).transcript (parts c).transcript → IsEndedAt zone parts b c ahead line why
+      → IsEndedAt zone parts a c text (n + line) why
+  ended_both text a b c ahead n line why u kept e = record {
+    done = u.done ++ e.done;
+    request = e.request;
+    ahead = e.ahead;
+    others = e.others;
+    requests = u.requests ∙ ap (λ l. u.done ++ l) e.requests ∙ sym (append_assoc u.done e.done (e.request ∷ (e.ahead ++ e.others)));
+    counted = (let both = length-append u.done e.done in omega (arith, u.counted, e.counted, both));
+    few = e.few;
+    events = u.events ++ e.events;
+    each =
+        let both = length-append u.done e.done in
+        let all = length-append u.events e.events in
+        let many = as_many parts zone a b u.done u.events u.accepted.0 in
+        omega (arith, e.each, both, all, many);
+    unbarred = all_both (λ (r : Request). is_barred (asks_of zone r) ≡ false) u.done e.done u.accepted.1 e.unbarred;
+    priced = all_both (λ (x : Event). IsPriced x.reply) u.events e.events u.accepted.2 e.priced;
+    ended = by e.ended;
+  }
+    where
+      by : IsEndedBy zone parts b c e.done e.events e.request e.ahead why → IsEndedBy zone parts a c (u.done ++ e.done) (u.events ++ e.events) e.request e.ahead why
+      by (inl (last, more, free, handed, ends)) = inl (
+        last,
+        more,
+        free,
+        subst (λ rs. AreHanded zone parts a c rs ((u.events ++ e.events) ++ last ∷ more)) (sym (append_assoc u.done e.done (e.request ∷ e.ahead)))
+            (subst (AreHanded zone parts a c (u.done ++ (e.done ++ e.request ∷ e.ahead))) (sym (append_assoc u.events e.events (last ∷ more)))
+            (handed_both a b c u.done (e.done ++ e.request ∷ e.ahead) u.events (e.events ++ last ∷ more) u.same kept u.accepted.0 handed)),
+        ends,
+      )
+      by (inr (barred, handed, bad)) = inr (barred, handed_both a b c u.done e.done u.events e.events u.same kept u.accepted.0 handed, bad)
+
   -- what is told of it
   pub told_of : (text : List ℕ) (a c : D) (line : ℕ) (why : Refusal) (told : ReplayFault) → IsEndedAt zone parts a c text line why → IsFaultOf line why told → IsEnded zone parts a c text told
   told_of text a c line why told f (inl memory) =
@@ -210,7 +323,7 @@ module _ {D O : Type 0} (zone : TimeZone) (parts : D → DeskParts O) where
   told_of text a c line why told f (inr other) = subst (IsEnded zone parts a c text) (sym other.1) (f, other.0)
 
   -- what is ahead has no newline
-  pub finished : IsReadByLine → (text : List ℕ) (a b : D) (ahead : List ℕ) (lines bytes : ℕ) → IsUnderway text a b ahead lines → has_newline ahead ≡ false → bytes ≡ length text - length ahead
+  pub finished : IsReadByLine → (text : List ℕ) (a b : D) (ahead : List ℕ) (lines bytes : ℕ) → IsUnderway zone parts a b text ahead lines → has_newline ahead ≡ false → bytes ≡ length text - length ahead
       → IsReplayed zone parts a b text (record { lines = lines; bytes = bytes })
   finished read text a b ahead lines bytes u part is =
       let all : line_requests text ≡ u.done = u.requests ∙ ap (λ l. u.done ++ l) (read.no_line ahead part) ∙ append-nil u.done in

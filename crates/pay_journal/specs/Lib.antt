@@ -1,5 +1,6 @@
 pub mod Lines
 pub mod Replays
+pub mod HandedOn
 pub mod Keeping
 pub mod KeptAnswers
 pub mod KeptParts

@@ -1,11 +1,11 @@
 -- What a text of lines comes to that is replayed: its commands are handed to a desk once more, and each has to be accepted.
-use Rattle.std.specs.Prelude.{◌≡◌, ◌≢◌, ◌⊎◌, ℕ, ◌+◌, Bool, true, false, List, [], ◌∷◌, ◌++◌, length, Option, Some, None, Result, ⊤, refl}
+use Rattle.std.specs.Prelude.{◌≡◌, ◌≢◌, ◌⊎◌, ℕ, ◌+◌, ◌≤◌, ◌<◌, Bool, true, false, List, ◌∷◌, ◌++◌, length, Option, Some, None, Result, ⊤, refl}
 use Rattle.std.specs.List.{AllByRecursion}
 use Rattle.jiff.specs.declared.tz.timezone.TimeZone.{TimeZone}
 use Rattle.pay_rules.specs.declared.posting.Posting.{Posting}
 use Rattle.pay_rules.specs.declared.priced.Priced.{Priced}
 use Rattle.pay_shard.specs.declared.asked.Asked.TheVariants as asked
-use Rattle.pay_shard.specs.Words.{DeskParts}
+use Rattle.pay_shard.specs.Words.{DeskParts, NothingIsLost}
 use Rattle.pay_wire.specs.declared.command.SpelledCommand.TheVariants as command
 use Rattle.pay_wire.specs.declared.refusal.Refusal.{Refusal}
 use Rattle.pay_wire.specs.declared.refusal.Refusal.TheVariants as refusal
@@ -22,6 +22,7 @@ use Rattle.pay_session.specs.declared.asks.Asks.TheVariants as asks
 use Rattle.pay_journal.specs.declared.replaying.Replayed.{Replayed}
 use Rattle.pay_journal.specs.declared.replaying.ReplayFault.{ReplayFault}
 use Rattle.pay_journal.specs.declared.replaying.ReplayFault.TheVariants as fault
+use Rattle.pay_journal.specs.declared.limits.TheConstants.{MOST_AHEAD}
 use Rattle.pay_session.specs.declared.request.Request.{Request}
 use Rattle.pay_session.specs.declared.request.Request.TheVariants as requests
 
@@ -81,23 +82,44 @@ module _ {D O : Type 0} (zone : TimeZone) (parts : D → DeskParts O) (before af
     pub counted : it.lines ≡ length (line_requests text)
     pub sized : it.bytes + length (rest_of text) ≡ length text
 
-  -- After these, a request was answered by something else than prices; or it is barred, and the desk was not asked.
-  abbrev pub IsEndedBy : List Request → List Event → Request → Refusal → Type 0
-  IsEndedBy done events request why =
-      ((last : Event) × (is_barred (asks_of zone request) ≡ false) × AreHanded (done ++ request ∷ []) (events ++ last ∷ []) × (why_ended last.reply ≡ Some why))
+  -- After these, a request was answered by something else than prices, and those ahead of it by then were answered too; or it is barred, and
+  -- the desk was not asked.
+  abbrev pub IsEndedBy : List Request → List Event → Request → List Request → Refusal → Type 0
+  IsEndedBy done events request ahead why =
+      ((last : Event) × (more : List Event) × (is_barred (asks_of zone request) ≡ false) × AreHanded (done ++ request ∷ ahead) (events ++ last ∷ more) × (why_ended last.reply ≡ Some why))
       ⊎ ((is_barred (asks_of zone request) ≡ true) × AreHanded done events × (why ≡ refusal.BadLine))
 
-  -- The lines before the one of this number were accepted, and that one was not.
+  -- The lines before the one of this number were accepted, and that one was not. No more than a few of those after it were handed on.
   pub record IsEndedAt (text : List ℕ) (line : ℕ) (why : Refusal) : Type 0 where
     pub done : List Request
     pub request : Request
+    pub ahead : List Request
     pub others : List Request
-    pub requests : line_requests text ≡ done ++ request ∷ others
+    pub requests : line_requests text ≡ done ++ request ∷ (ahead ++ others)
     pub counted : line ≡ length done + 1
+    pub few : length ahead < MOST_AHEAD
     pub events : List Event
+    pub each : length events ≡ length done
     pub unbarred : NoneIsBarred done
     pub priced : AllByRecursion (λ (e : Event). IsPriced e.reply) events
-    pub ended : IsEndedBy done events request why
+    pub ended : IsEndedBy done events request ahead why
+
+  -- So far: the lines before those that are left were accepted.
+  pub record IsUnderway (text left : List ℕ) (lines : ℕ) : Type 0 where
+    pub done : List Request
+    pub events : List Event
+    pub requests : line_requests text ≡ done ++ line_requests left
+    pub rest : rest_of text ≡ rest_of left
+    pub accepted : AreAccepted done events
+    pub counted : lines ≡ length done
+    pub fits : lines + length left ≤ length text
+    pub kept : NothingIsLost (parts before).transcript (parts after).transcript
+    pub same : (parts after).standing ≡ (parts before).standing
+
+  -- how far some lines of a text were handed on: all of them were accepted, or one was not
+  abbrev pub IsStepBy : List ℕ → (lines : ℕ) (left : List ℕ) → Option Refusal → Type 0
+  IsStepBy text lines left None = IsUnderway text left lines
+  IsStepBy text lines left (Some why) = IsEndedAt text (lines + 1) why
 
   -- how a replay ends that does not reach the end of its text
   abbrev pub IsEnded : List ℕ → ReplayFault → Type 0

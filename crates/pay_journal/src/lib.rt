@@ -4,11 +4,13 @@
 //! once more. What journals give back, whole, cut or torn, is said in `pay_journal_laws`.
 #![tactic(auto)]
 
+mod ahead;
 mod desk;
 mod keeper;
 mod keeping;
 mod lasting;
 pub mod laws;
+pub mod limits;
 mod line_keeper;
 mod lines;
 mod replaying;

@@ -1,10 +1,11 @@
 //! Replaying a text of lines: the commands that an earlier session accepted are handed to a desk once more.
-ghost use Rattle.std.specs.Prelude.{◌≡◌, IfOk, IfErr};
+ghost use Rattle.std.specs.Prelude.{◌≡◌, ◌+◌, ◌<◌, ◌≤◌, ◌∷◌, ◌++◌, false, None, length, IfOk, IfErr};
 ghost use Rattle.pay_shard.specs.Words.{NothingIsLost};
 ghost use Rattle.pay_session.specs.Asks.{asks_of, IsOfAccount};
-ghost use Rattle.pay_journal.specs.Replays.{IsReplayed, IsEnded, IsReplayStep, IsFaultOf, is_barred, why_ended};
-ghost use Rattle.pay_session.specs.Requests.{request_of};
+ghost use Rattle.pay_journal.specs.Replays.{IsReplayed, IsEnded, IsReplayStep, IsStepBy, IsFaultOf, is_barred, why_ended};
+ghost use Rattle.pay_session.specs.Requests.{has_newline, request_of};
 
+use crate::ahead::hand_on;
 use jiff::tz::TimeZone;
 use pay_session::{Asks, asks_of, cut, reply_of, request_of};
 use pay_shard::{Asked, Command, Desk};
@@ -31,9 +32,21 @@ pub enum ReplayFault {
     Memory,
 }
 
-/// Hands the lines of a text to a desk, up to its last newline. Each has to be a tap or a correction that is answered by prices,
-/// as a repeat is: the first that is not ends the replay, and the desk has then taken those before it, and perhaps that one. A
-/// question, a `CLOSE` and a `QUIT` are a `BadLine` here, and no desk is asked.
+/// How far a replay came by some lines.
+#[derive(Clone, Copy)]
+pub(crate) struct Step<'a> {
+    /// How many lines were answered by prices, one after the other.
+    pub lines: u64,
+    /// What stands after the lines that the desk took.
+    pub left: &'a [u8],
+    /// Why the replay ends at the line after those, if it does.
+    pub ended: Option<Refusal>,
+}
+
+/// Hands the lines of a text to a desk, up to its last newline, some of them before the first has its reply. Each has to be a tap or a
+/// correction that is answered by prices, as a repeat is: the first that is not ends the replay, and the desk has then taken those before
+/// it, and perhaps that one and fewer than [`MOST_AHEAD`](crate::limits::MOST_AHEAD) after it. A question, a `CLOSE` and a `QUIT` are a
+/// `BadLine` here, and no desk is asked.
 pub fn replay<D: Desk>(
     text: &[u8],
     zone: &TimeZone<'_>,
@@ -48,16 +61,53 @@ pub fn replay<D: Desk>(
     let mut ahead = text;
     let mut lines = 0;
     while let Some((line, rest)) = cut(ahead) {
-        lines += 1;
-        if let Some(why) = replay_line(line, zone, desk) {
-            return Err(fault_at(lines, why));
+        let step = take_some(ahead, line, rest, zone, desk);
+        lines += step.lines;
+        if let Some(why) = step.ended {
+            return Err(fault_at(lines + 1, why));
         }
-        ahead = rest;
+        ahead = step.left;
     }
     Ok(Replayed {
         lines,
         bytes: (text.len() - ahead.len()) as u64,
     })
+}
+
+/// Hands the first lines of a text to a desk, as many as it takes at a time. Of a line that it does not take, the answer to that alone is
+/// what counts.
+fn take_some<'a, D: Desk>(
+    text: &'a [u8],
+    line: &[u8],
+    rest: &'a [u8],
+    zone: &TimeZone<'_>,
+    desk: &mut D,
+) -> Step<'a>
+    requires parts { text.now ≡ line.now ++ 10 ∷ rest.now }
+    requires line { has_newline line.now ≡ false }
+    ensures step { IsStepBy zone.now D.parts desk.old desk.new text.now result.lines result.left.now result.ended }
+    ensures fits { result.lines + length result.left.now ≤ length text.now }
+    ensures some { result.ended ≡ None → 0 < result.lines }
+    ensures transcript { NothingIsLost (D.parts desk.old).transcript (D.parts desk.new).transcript }
+    ensures same_desk { (D.parts desk.new).standing ≡ (D.parts desk.old).standing }
+{
+    pay_session::laws::line_by_line();
+    let handed = hand_on(text, zone, desk);
+    if handed.lines > 0 || handed.ended.is_some() {
+        return handed;
+    }
+    match replay_line(line, zone, desk) {
+        Some(why) => Step {
+            lines: 0,
+            left: rest,
+            ended: Some(why),
+        },
+        None => Step {
+            lines: 1,
+            left: rest,
+            ended: None,
+        },
+    }
 }
 
 /// What is told of a replay that ended so at the line of this number.
@@ -99,14 +149,14 @@ fn put_again<D: Desk>(desk: &mut D, command: Command) -> Option<Refusal>
 }
 
 /// Whether a command is neither a tap nor a correction.
-fn is_question(command: &Command) -> bool
+pub(crate) fn is_question(command: &Command) -> bool
     ensures { result ≡ is_barred (Asks.Put command.now) }
 {
     !matches!(command.asked(), Asked::Tap(_) | Asked::Fix(_))
 }
 
 /// Why a reply ends a replay, if it does: each does but prices.
-fn why_ended(reply: &SpelledReply) -> Option<Refusal>
+pub(crate) fn why_ended(reply: &SpelledReply) -> Option<Refusal>
     ensures { result ≡ why_ended reply.now }
 {
     match reply {
