@@ -1,10 +1,10 @@
 -- What a desk has to which lines were replayed, and where a replay ended.
-use Rattle.std.proofs.Common.{◌≡◌, ◌≢◌, inl, inr, ℕ, ◌+◌, ◌-◌, Bool, true, false, ◌||◌, List, [], ◌∷◌, ◌++◌, length, map, refl, sym, ap, ◌∙◌, subst, append_assoc, append-nil, arith, Option, Some, None, IfSome}
+use Rattle.std.proofs.Common.{◌≡◌, ◌≢◌, inl, inr, ℕ, ◌+◌, ◌-◌, suc, Bool, true, false, ◌||◌, List, [], ◌∷◌, ◌++◌, length, map, refl, sym, ap, ◌∙◌, subst, append_assoc, append-nil, length-append, arith, Option, Some, None, IfSome}
 use Rattle.std.specs.Prelude.{Result, Ok, Err, IfOk, IfErr, OnOk, ⊤}
 use Rattle.std.specs.FinMap as finite
 use Rattle.std.specs.List.{AllByRecursion, list_any}
 use Rattle.std.proofs.lemmas.Grind.{flat_map-append}
-use Rattle.std.proofs.lemmas.List.{map-append}
+use Rattle.std.proofs.lemmas.List.{length-map, map-append}
 use Rattle.jiff.specs.declared.tz.timezone.TimeZone.{TimeZone}
 use Rattle.pay_rules.specs.declared.posting.Posting.{Posting}
 use Rattle.pay_rules.specs.declared.priced.Priced.{Priced}
@@ -85,6 +85,12 @@ module _ (Refuses : DeskFault → Type 0) (Late : Type 0) (zone : TimeZone) wher
   served_both [] (e ∷ es) others more a b c f g = absurd f
   served_both (r ∷ rs) [] others more a b c f g = absurd f
   served_both (r ∷ rs) (e ∷ es) others more a b c f g = (f.0, f.1, served_both rs es others more f.0 b c f.2 g)
+
+  served_many : (rs : List Request) (es : List Event) (a b : ⊤) → AreServed 1 Refuses Late ClosesNothing zone a rs es b → length es ≡ length rs
+  served_many [] [] a b f = refl
+  served_many [] (e ∷ es) a b f = absurd f
+  served_many (r ∷ rs) [] a b f = absurd f
+  served_many (r ∷ rs) (e ∷ es) a b f = ap suc (served_many rs es f.0 b f.2)
 
 -- what was handed to a desk, and then more
 handed_both : (zone : TimeZone) (first desk last : LocalParts) (rs others : List Request) (es more : List Event) → (desk_parts desk).standing ≡ (desk_parts first).standing → NothingIsLost (desk_parts desk).transcript (desk_parts last).transcript
@@ -220,13 +226,6 @@ heads x y xs ys e = cc
 tails : {X : Type 0} (x y : X) (xs ys : List X) → x ∷ xs ≡ y ∷ ys → xs ≡ ys
 tails x y xs ys e = cc
 
-none_some : {X : Type 0} (x : X) (xs : List X) → ◌≡◌ {A = List X} [] (x ∷ xs) → ⊥
-none_some x xs e = cc
-
-not_none : {X : Type 0} (xs : List X) (x : X) → ◌≡◌ {A = List X} [] (xs ++ x ∷ []) → ⊥
-not_none [] x e = none_some x [] e
-not_none (y ∷ xs) x e = none_some y (xs ++ x ∷ []) e
-
 -- the mark of the first request, and those of the others
 abbrev mark_first : List (Option Failure) → Option Failure
 mark_first [] = None
@@ -252,30 +251,20 @@ record EndsBy (m : Machine) (list : List Request) (r : Request) (last : SpelledR
   kept : is_keeping mark ≡ false
   replied : (step mark (outcome [] m list).after r).reply ≡ last
 
-ends_by : (marks : List (Option Failure)) (m : Machine) (list : List Request) (r : Request) (told : List SpelledReply) (last : SpelledReply) → (outcome marks m (list ++ r ∷ [])).replies ≡ told ++ last ∷ [] → AreAllPriced told → list_any is_keeping marks ≡ false
-    → EndsBy m list r last
-ends_by marks m [] r [] last e all kept = record {
+ends_by : (marks : List (Option Failure)) (m : Machine) (list : List Request) (r : Request) (more : List Request) (told : List SpelledReply) (last : SpelledReply) (later : List SpelledReply) → length told ≡ length list
+    → (outcome marks m (list ++ r ∷ more)).replies ≡ told ++ last ∷ later → AreAllPriced told → list_any is_keeping marks ≡ false → EndsBy m list r last
+ends_by marks m [] r more [] last later many e all kept = record {
   accepted = tt;
   mark = mark_first marks;
   kept = (first_kept marks kept).0;
-  replied = heads _ _ _ _ (sym (ap (λ (o : Outcome). o.replies) (one_first marks m r [])) ∙ e);
+  replied = heads _ _ _ _ (sym (ap (λ (o : Outcome). o.replies) (one_first marks m r more)) ∙ e);
 }
-ends_by marks m [] r (t ∷ told) last e all kept =
-    absurd (not_none told last (sym (no_replies (marks_later marks) (step (mark_first marks) m r).after) ∙ tails _ _ _ _ (sym (ap (λ (o : Outcome). o.replies) (one_first marks m r [])) ∙ e)))
-  where
-    no_replies : (marks : List (Option Failure)) (m : Machine) → (outcome marks m []).replies ≡ []
-    no_replies [] m = refl
-    no_replies (mark ∷ marks) m = refl
-ends_by marks m (x ∷ list) r [] last e all kept =
-    absurd (some_replies (marks_later marks) (step (mark_first marks) m x).after list (sym (tails _ _ _ _ (sym (ap (λ (o : Outcome). o.replies) (one_first marks m x (list ++ r ∷ []))) ∙ e))))
-  where
-    some_replies : (marks : List (Option Failure)) (m : Machine) (list : List Request) → [] ≡ (outcome marks m (list ++ r ∷ [])).replies → ⊥
-    some_replies marks m [] h = none_some _ _ (h ∙ ap (λ (o : Outcome). o.replies) (one_first marks m r []))
-    some_replies marks m (y ∷ list) h = none_some _ _ (h ∙ ap (λ (o : Outcome). o.replies) (one_first marks m y (list ++ r ∷ [])))
-ends_by marks m (x ∷ list) r (t ∷ told) last e all kept =
-    let both = sym (ap (λ (o : Outcome). o.replies) (one_first marks m x (list ++ r ∷ []))) ∙ e in
+ends_by marks m [] r more (t ∷ told) last later many e all kept = absurd (omega (arith, many))
+ends_by marks m (x ∷ list) r more [] last later many e all kept = absurd (omega (arith, many))
+ends_by marks m (x ∷ list) r more (t ∷ told) last later many e all kept =
+    let both = sym (ap (λ (o : Outcome). o.replies) (one_first marks m x (list ++ r ∷ more))) ∙ e in
     let first = step (mark_first marks) m x in
-    let rest = ends_by (marks_later marks) first.after list r told last (tails _ _ _ _ both) all.1 (first_kept marks kept).1 in
+    let rest = ends_by (marks_later marks) first.after list r more told last later (omega (arith, many)) (tails _ _ _ _ both) all.1 (first_kept marks kept).1 in
     let priced : is_priced first.reply ≡ true = ap is_priced (heads _ _ _ _ both) ∙ all.0 in
     let alike : step None m x ≡ first = step_alike (mark_first marks) m x priced in
     record {
@@ -382,16 +371,25 @@ module _ (by_line : AskedByItsLine) (zone : TimeZone) (editions : FareEditions) 
   told_all : AreAllPriced (replies_of (h.events ++ e.events))
   told_all = priced_replies (h.events ++ e.events) (all_both (λ (x : Event). IsPriced x.reply) h.events e.events h.accepted.2 e.priced)
 
-  one_more : (last_event : Event) → replies_of (h.events ++ (e.events ++ last_event ∷ [])) ≡ replies_of (h.events ++ e.events) ++ last_event.reply ∷ []
-  one_more last_event = ap replies_of (sym (append_assoc h.events e.events (last_event ∷ []))) ∙ map-append (λ (x : Event). x.reply) (h.events ++ e.events) (last_event ∷ [])
+  one_more : (last_event : Event) (more : List Event) → replies_of (h.events ++ (e.events ++ last_event ∷ more)) ≡ replies_of (h.events ++ e.events) ++ last_event.reply ∷ replies_of more
+  one_more last_event more = ap replies_of (sym (append_assoc h.events e.events (last_event ∷ more))) ∙ map-append (λ (x : Event). x.reply) (h.events ++ e.events) (last_event ∷ more)
+
+  as_many : length (replies_of (h.events ++ e.events)) ≡ length (before ++ e.done)
+  as_many =
+      let told = length-map (h.events ++ e.events) (λ (x : Event). x.reply) in
+      let events = length-append h.events e.events in
+      let list = length-append before e.done in
+      let first = served_many (MaySometimeRefuse desk_parts (desk_parts h.first).standing) (MaySometimeBeLate desk_parts (desk_parts h.first).standing) zone before h.events tt tt h.accepted.0.served in
+      let each = e.each in
+      omega (arith, told, events, list, first, each)
 
   stopped : IsStopped
   stopped = elim e.ended [
-    | inl (last_event, free, handed, ends) ↦
-        let r = run (e.done ++ e.request ∷ []) (e.events ++ last_event ∷ []) handed in
-        let list : before ++ (e.done ++ e.request ∷ []) ≡ (before ++ e.done) ++ e.request ∷ [] = sym (append_assoc before e.done (e.request ∷ [])) in
-        let by = ends_by r.marks new (before ++ e.done) e.request (replies_of (h.events ++ e.events)) last_event.reply
-        (ap (λ l. (outcome r.marks new l).replies) (sym list) ∙ ap (λ (o : Outcome). o.replies) r.gives ∙ one_more last_event) told_all r.kept in
+    | inl (last_event, more, free, handed, ends) ↦
+        let r = run (e.done ++ e.request ∷ e.ahead) (e.events ++ last_event ∷ more) handed in
+        let list : before ++ (e.done ++ e.request ∷ e.ahead) ≡ (before ++ e.done) ++ e.request ∷ e.ahead = sym (append_assoc before e.done (e.request ∷ e.ahead)) in
+        let by = ends_by r.marks new (before ++ e.done) e.request e.ahead (replies_of (h.events ++ e.events)) last_event.reply (replies_of more) as_many
+        (ap (λ l. (outcome r.marks new l).replies) (sym list) ∙ ap (λ (o : Outcome). o.replies) r.gives ∙ one_more last_event more) told_all r.kept in
         record {
           all = by.accepted;
           accepted = rest_priced new before e.done by.accepted;
@@ -416,7 +414,7 @@ module _ (by_line : AskedByItsLine) (zone : TimeZone) (editions : FareEditions) 
   all_accepted = stopped.all
 
   pub reaches : Reaches begun (line_requests text) line
-  reaches = record { done = e.done; request = e.request; others = e.others; requests = e.requests; counted = e.counted; accepted = stopped.accepted }
+  reaches = record { done = e.done; request = e.request; others = e.ahead ++ e.others; requests = e.requests; counted = e.counted; accepted = stopped.accepted }
 
   pub stops_at : why ≢ refusal.Memory → StopsAt begun (line_requests text) line why
   unfolding reaches
