@@ -89,7 +89,7 @@ module _ (Refuses : DeskFault → Type 0) (Late : Type 0) (of : ℕ) where
 
   -- ---- why the ledger did not post
 
-  of_store : (why : PostFault) → IsTrue (is_of_store (ledger_fault.Refused why)) → IsTrue (is_outside (refusal_of_posting why))
+  pub of_store : (why : PostFault) → IsTrue (is_of_store (ledger_fault.Refused why)) → IsTrue (is_outside (refusal_of_posting why))
   of_store post.BadArchive e = absurd (cc)
   of_store (post.StaleQuote account version through) e = absurd (cc)
   of_store post.QuoteDiffers e = absurd (cc)
@@ -151,7 +151,7 @@ module _ (Refuses : DeskFault → Type 0) (Late : Type 0) (of : ℕ) where
       either true = refl
       either false = refl
 
-  short_of : (fault : DeskFault) (put : List Taken) → IsStopped Refuses Late of fault put → IsShort Refuses Late put
+  pub short_of : (fault : DeskFault) (put : List Taken) → IsStopped Refuses Late of fault put → IsShort Refuses Late put
   short_of fault put (inl f) = inl (fault, f.refuses)
   short_of fault put (inr f) = let g = f.first in inr (ap (list_any (λ (t : Taken). not (brings_quotes t.answer))) g.parts ∙ one_lacks g.front g.first g.later g.without)
 
@@ -178,7 +178,7 @@ module _ (Refuses : DeskFault → Type 0) (Late : Type 0) (of : ℕ) where
   posting_of_close post.ArchiveConflict = refl
   posting_of_close post.Memory = refl
 
-  said_of_close : (result : Result (List Posting) NotClosed) → IfErr (as_said result) (λ why. IsTrue (is_of_close why))
+  pub said_of_close : (result : Result (List Posting) NotClosed) → IfErr (as_said result) (λ why. IsTrue (is_of_close why))
   said_of_close (Ok given) = tt
   said_of_close (Err (Desk fault)) = refl
   said_of_close (Err (Ledger ledger_fault.Store)) = refl

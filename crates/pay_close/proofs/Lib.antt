@@ -7,3 +7,4 @@ mod OneByOne
 mod AnyShards
 mod OneShard
 mod ClosedBy
+mod Counted

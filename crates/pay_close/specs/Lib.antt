@@ -5,3 +5,4 @@ pub mod Batches
 pub mod Gathers
 pub mod Laws
 pub mod Closes
+pub mod Opens

@@ -5,4 +5,5 @@ pub use Rattle.pay_close.specs.Batches.{in_order_by, in_order, no_batch, both, b
 pub use Rattle.pay_close.specs.Gathers.{fault_of_answer, IsStopped, IsTold, IsAsked, IsAskedAt, IsToldAt}
 pub use Rattle.pay_close.specs.Faults.{refusal_of_posting, refusal_of_close, is_outside, is_from_outside}
 pub use Rattle.pay_close.specs.Closes.{posted_of, ClosesBy, IsWhy, IsWhySaid, Closes, IsClosedSo, IsClosedSoAt}
+pub use Rattle.pay_close.specs.Opens.{is_open, open_count, IsSoOfLedger, IsOnlyRead, IsCount, Opens, IsCounted, IsCountedAt}
 pub use Rattle.pay_close.specs.Laws.{Brings, AreOfShards, ShardsGatherAll, ShardsCloseAsMachine, ShardsCloseAsMerge, OneShardGathersAll, OneShardClosesAsMachine}

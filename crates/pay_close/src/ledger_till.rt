@@ -11,6 +11,7 @@ ghost use Rattle.pay_close.specs.Gathers.{IsAskedAt};
 
 use crate::fault::NotClosed;
 use crate::gathered::gather;
+use crate::open_accounts::count_open;
 use crate::watch::Watch;
 use pay_ledger::Ledger;
 use pay_rules::Postings;
@@ -69,12 +70,15 @@ impl<'a, S: Alter, W: Watch> Till for LedgerTill<'a, S, W> {
     ghost use Rattle.std.specs.Borrow.{GName};
     ghost use Rattle.sqlite.specs.Held.{state};
     ghost use Rattle.pay_close.specs.Closes.{Closes};
+    ghost use Rattle.pay_close.specs.Opens.{Opens};
 
     ghost Origin = { GName };
 
     ghost origin = { λ t. t.ledger.ghost_name };
 
     ghost Closes = { λ before day of put result after. Closes (state S.Store before.ledger.now) (state S.Store after.ledger.now) of put result };
+
+    ghost Opens = { λ before day of put result after. Opens (state S.Store before.ledger.now) (state S.Store after.ledger.now) of put result };
 
     fn close<D: Desk>(&mut self, desk: &mut D, day: u32) -> Result<Postings, Refusal> {
         if !self.watch.may_close(day) {
@@ -89,6 +93,13 @@ impl<'a, S: Alter, W: Watch> Till for LedgerTill<'a, S, W> {
                 self.watch.not_closed(day, &why);
                 Err(Refusal::from(why))
             }
+        }
+    }
+
+    fn open<D: Desk>(&mut self, desk: &mut D, day: u32) -> Result<u64, Refusal> {
+        match count_open(self.alloc, desk, self.ledger, day) {
+            Ok(count) => Ok(count),
+            Err(why) => Err(Refusal::from(why)),
         }
     }
 }
