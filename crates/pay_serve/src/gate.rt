@@ -9,7 +9,7 @@ ghost use Rattle.pay_serve.specs.KeepingGates.{HoldsPassed};
 
 use crate::limits::SPARED_LANE;
 use pay_journal::{Keeper, NotKept, keep_answer};
-use pay_lanes::Gate;
+use pay_lanes::{Gate, Load};
 use pay_shard::{Answer, Asked, Entry};
 use std::marker::Model;
 use std::snapshot::Snapshot;
@@ -17,8 +17,8 @@ use std::sync::Wait;
 
 /// A gate that has a keeper keep the line of each tap and each correction that is newly accepted, before the lane can have the
 /// answer. The commands of one lane are spared: those are kept already. What could not be kept does not pass, and nothing after
-/// it. What passed is forgotten. In a contract it is the bytes that the keeper held when it began, those that it holds, and whether something could not
-/// be kept.
+/// it. What passed is forgotten. The keeper is told what the worker has on hand too. In a contract it is the bytes that the keeper held
+/// when it began, those that it holds, and whether something could not be kept.
 #[derive(Drop)]
 pub struct KeepingGate<K: Keeper> {
     keeper: K,
@@ -101,7 +101,7 @@ impl<K: Keeper> Gate for KeepingGate<K> {
     fn before_job<R: Wait>(&mut self, _rt: &R, _shard: u8, _entry: &Entry) {}
 
     // The trait's clauses, and when it is false.
-    fn after_job<R: Wait>(&mut self, _rt: &R, entry: &Entry, answer: &Answer) -> bool
+    fn after_job<R: Wait>(&mut self, _rt: &R, load: Load, entry: &Entry, answer: &Answer) -> bool
         ensures passed { (passed : List Passed) → HoldsPassed K.holds K.HasFailed K.IsSettled self.old passed false
             → HoldsPassed K.holds K.HasFailed K.IsSettled self.new (passed ++ passing result entry.now answer.now) (not result) }
         ensures shut { self.new.stuck ≡ not result }
@@ -111,6 +111,7 @@ impl<K: Keeper> Gate for KeepingGate<K> {
         if self.stuck {
             return false;
         }
+        self.keeper.tell(load.accounts, load.waiting);
         match keep_first(&mut self.keeper, entry, answer) {
             Ok(()) => true,
             Err(_) => {
