@@ -3,3 +3,4 @@ pub mod Crossing
 pub mod FirstWords
 pub mod Greeted
 pub mod Sent
+pub mod Opened

@@ -2,7 +2,7 @@
 use Rattle.std.specs.Prelude.{◌≡◌, ℕ, List, [], ◌∷◌, ◌++◌, codes, decimal, Option, Some, None, refl}
 use Rattle.std.specs.Fmt.{digits}
 use Rattle.pay_peers.specs.declared.word.Word.{Word}
-use Rattle.pay_peers.specs.declared.word.Word.TheVariants.{Stop, Stats, Backup}
+use Rattle.pay_peers.specs.declared.word.Word.TheVariants.{Stop, Stats, Backup, Open}
 
 -- the reply to it: how many bytes were copied, or that none were
 abbrev pub backup_reply : Option ℕ → List ℕ
@@ -16,6 +16,7 @@ module _ {S : Type 0} (Copies : S → List ℕ → Option ℕ → S → Type 0) 
   IsAsked Stop before after = Stops before after
   IsAsked Stats before after = after ≡ before
   IsAsked (Backup path) before after = (copied : Option ℕ) × Copies before path copied after
+  IsAsked (Open day) before after = after ≡ before
 
 -- ---- worked rows
 

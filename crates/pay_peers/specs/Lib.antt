@@ -1,7 +1,9 @@
 pub mod Backups
 pub mod Fates
 pub mod Greetings
+pub mod Heard
 pub mod Lines
+pub mod OpenWeeks
 pub mod Refused
 pub mod Sending
 pub mod Strangers

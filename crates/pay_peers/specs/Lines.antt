@@ -6,6 +6,10 @@ use Rattle.std.specs.Str.{bytes_eq}
 use Rattle.pay_rules.specs.declared.posting.Posting.{Posting}
 use Rattle.pay_shard.specs.Words.{DeskParts}
 use Rattle.pay_till.specs.Words.{Taken}
+use Rattle.pay_wire.specs.Commands.{day_of}
+use Rattle.pay_wire.specs.Words.{command_of}
+use Rattle.pay_wire.specs.declared.command.SpelledCommand.{SpelledCommand}
+use Rattle.pay_wire.specs.declared.command.SpelledCommand.TheVariants.{Close}
 use Rattle.pay_wire.specs.declared.refusal.Refusal.{Refusal}
 use Rattle.pay_session.specs.Words.{TakesPiece}
 use Rattle.pay_session.specs.declared.port.Port.{Port}
@@ -13,7 +17,7 @@ use Rattle.pay_session.specs.declared.port.Role.{Role}
 use Rattle.pay_session.specs.declared.port.Role.TheVariants.{Taps, All}
 use Rattle.pay_peers.specs.Greetings.{Greets}
 use Rattle.pay_peers.specs.declared.word.Word.{Word}
-use Rattle.pay_peers.specs.declared.word.Word.TheVariants.{Stop, Stats, Backup}
+use Rattle.pay_peers.specs.declared.word.Word.TheVariants.{Stop, Stats, Backup, Open}
 
 -- bytes are a path from the root: each is printable ASCII, and none a space
 unfoldable pub is_path : List ℕ → Bool
@@ -23,11 +27,21 @@ is_path bytes = starts_with nat_eq bytes (codes "/") && list_all is_ascii_graphi
 abbrev pub backup_of : List ℕ → Option Word
 backup_of line = if bytes_eq (take 7 line) (codes "BACKUP ") && is_path (drop 7 line) then Some (Backup (drop 7 line)) else None
 
+-- the day that a CLOSE names, as the word that asks for its open accounts
+abbrev pub opens : Option SpelledCommand → Option Word
+opens (Some (Close day)) = Some (Open day)
+opens _ = None
+
+-- what stands behind `OPEN ` names a day as it would behind `CLOSE `
+abbrev pub open_of : List ℕ → Option Word
+open_of day = opens (command_of (codes "CLOSE " ++ day))
+
 -- the word of staff that a line is
 abbrev pub word_of : List ℕ → Option Word
 word_of line =
     if bytes_eq line (codes "STOP") then Some Stop
     else if bytes_eq line (codes "STATS") then Some Stats
+    else if bytes_eq (take 5 line) (codes "OPEN ") then open_of (drop 5 line)
     else backup_of line
 
 -- the word that a line is at a port: at that of readers and customers none is, and no line of more than 128 bytes
@@ -90,7 +104,7 @@ unended : first_word All [] (codes "STOP") ≡ None
 unended = refl
 
 -- a reader's word is none
-of_a_reader : first_word Taps [] (codes "STOP\nSTATS\nBACKUP /backup/a.db\n") ≡ None
+of_a_reader : first_word Taps [] (codes "STOP\nSTATS\nBACKUP /backup/a.db\nOPEN 19735\n") ≡ None
 of_a_reader = refl
 
 backup : first_word All [] (codes "BACKUP /backup/ledger-2024-01-08.db\nQUIT\n") ≡ Some (Backup (codes "/backup/ledger-2024-01-08.db"), codes "QUIT\n")
@@ -110,3 +124,17 @@ longest = refl
 too_long : word_at All (codes "BACKUP /" ++ replicate 121 97) ≡ None
 unfolding is_path
 too_long = refl
+
+open_week : first_word All [] (codes "OPEN 19735\nQUIT\n") ≡ Some (Open 19_735, codes "QUIT\n")
+unfolding day_of
+open_week = refl
+
+-- without a day, with one out of range or with a leading zero, with two, with a sign, or with a space more it is none
+no_day : first_word All [] (codes "OPEN\nOPEN \nOPEN 3\nOPEN 50001\nOPEN 019735\nOPEN 19735 1\nOPEN +4\nOPEN 19735 \nOPEN  19735\nopen 19735\n") ≡ None
+unfolding day_of is_path
+no_day = refl
+
+-- nor does it name anything but a day
+no_other : first_word All [] (codes "OPEN 7 19735\nOPEN QUIT\nOPENS 19735\nCLOSE 19735\n") ≡ None
+unfolding day_of is_path
+no_other = refl

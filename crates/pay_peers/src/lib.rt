@@ -6,6 +6,7 @@
 #![tactic(auto)]
 
 mod aside;
+mod day;
 mod fate;
 mod greeting;
 pub mod limits;

@@ -1,6 +1,9 @@
 //! A connection that is held.
-ghost use Rattle.std.specs.Prelude.{◌≡◌, ◌<◌, string_bytes, ◌++◌, ◌||◌, ℕ, Option, IsTrue, true, false, [], length, drop, OnOk, IfOk, OnSome, IfSome};
+ghost use Rattle.std.specs.Prelude.{◌≡◌, ◌<◌, ◌≤◌, string_bytes, ◌++◌, ◌||◌, ℕ, Option, Result, Ok, IsTrue, true, false, [], length, drop, OnOk, IfOk, OnSome, IfSome};
 ghost use Rattle.std.specs.Option.{is_some};
+ghost use Rattle.pay_day.specs.declared.limits.TheConstants.{FIRST_DAY, LAST_DAY};
+ghost use Rattle.pay_shard.specs.Words.{NothingIsLost};
+ghost use Rattle.pay_wire.specs.declared.refusal.Refusal.{Refusal};
 ghost use Rattle.pay_session.specs.Requests.{has_newline};
 ghost use Rattle.pay_session.specs.declared.port.Role.{Role};
 ghost use Rattle.pay_session.specs.Words.{HasAnsweredAt, TakesPiece};
@@ -8,7 +11,9 @@ ghost use Rattle.pay_session.specs.declared.port.Role.TheVariants as roles;
 ghost use Rattle.pay_peers.specs.Backups.{backup_reply};
 ghost use Rattle.pay_peers.specs.Fates.{word_in, Lasts};
 ghost use Rattle.pay_peers.specs.Greetings.{Greets, RefusesAlone, is_greeted, refusal_of};
-ghost use Rattle.pay_peers.specs.Lines.{IsTaken, Hears, AnswersFront, MayGreet};
+ghost use Rattle.pay_peers.specs.Heard.{HasHeard, IsTold};
+ghost use Rattle.pay_peers.specs.Lines.{IsTaken, AnswersFront, MayGreet};
+ghost use Rattle.pay_peers.specs.OpenWeeks.{IsOpenedAt, open_reply};
 ghost use Rattle.pay_peers.specs.Refused.{NotesLine, noted};
 ghost use Rattle.pay_peers.specs.Strangers.{is_http, is_no_command, is_strange};
 ghost use Rattle.pay_peers.specs.declared.word.Word.{Word};
@@ -25,7 +30,7 @@ use mio::net::TcpStream;
 use pay_session::{Conversation, Port, cut};
 use pay_shard::Desk;
 use pay_till::Till;
-use pay_wire::WriteFault;
+use pay_wire::{Refusal, SpelledReply, WriteFault};
 use std::alloc::{AllocError, Global};
 use std::io::{ErrorKind, Read};
 use std::net::Shutdown;
@@ -121,6 +126,13 @@ fn backup_reply(alloc: Global, copied: Option<u64>) -> Result<String, AllocError
     }
 }
 
+/// The reply to how many accounts are open for a day, with its newline.
+fn open_reply(alloc: Global, day: u32, count: u64) -> Result<String, AllocError>
+    ensures { IfOk result (λ reply. string_bytes reply ≡ open_reply day (Ok count)) }
+{
+    format!(in alloc; "OPEN {day} {count}\n")
+}
+
 impl Peer {
     /// A connection on which nothing was read or written, and what it has to begin with, if it has to.
     pub fn new(alloc: Global, stream: TcpStream, seat: Seat, greeting: Option<Greeting>) -> Peer
@@ -172,6 +184,38 @@ impl Peer {
         let copied = aside.back_up(path);
         let reply = backup_reply(alloc, copied).ok()?;
         self.say(reply.as_bytes())
+    }
+
+    /// Says how many accounts are open for a day, or why that is not known.
+    fn say_open(&mut self, alloc: Global, day: u32, answer: Result<u64, Refusal>) -> Option<()>
+        ensures { OnSome result (IsTold self.old self.new (open_reply day answer)) }
+    {
+        match answer {
+            Ok(count) => {
+                let reply = open_reply(alloc, day, count).ok()?;
+                self.say(reply.as_bytes())
+            }
+            Err(why) => pay_wire::send(&mut self.unsent, &SpelledReply::No(why)).ok(),
+        }
+    }
+
+    /// Has a till count the accounts that are open for a day, and says what came of it.
+    pub fn count_open<D: Desk, T: Till>(
+        &mut self,
+        alloc: Global,
+        day: u32,
+        desk: &mut D,
+        till: &mut T,
+    ) -> Option<()>
+        requires { (FIRST_DAY ≤ day) × (day ≤ LAST_DAY) }
+        ensures opened { (answer : Result ℕ Refusal) × IsOpenedAt D.parts T.Closes T.Opens (day, answer) (desk.old, till.old) (desk.new, till.new)
+            × OnSome result (IsTold self.old self.new (open_reply day answer)) }
+        ensures transcript { NothingIsLost (D.parts desk.old).transcript (D.parts desk.new).transcript }
+        ensures same_desk { (D.parts desk.new).standing ≡ (D.parts desk.old).standing }
+        ensures same_till { T.origin till.new ≡ T.origin till.old }
+    {
+        let answer = till.open(desk, day);
+        self.say_open(alloc, day, answer)
     }
 
     /// Says that the service ends. No more lines are taken.
@@ -484,7 +528,7 @@ impl Peer {
         ensures same_till { T.origin till.new ≡ T.origin till.old }
         ensures staff { (word : Word) → result ≡ Fate.Asks word → port.entry.role ≡ roles.All }
         ensures over { self.new.over ≡ false → self.old.over ≡ false }
-        ensures heard { Lasts result → self.new.over ≡ false → Hears port.entry.role (word_in result) (self.old.awaited, self.old.begun, self.old.pending.items) (self.new.awaited, self.new.begun, self.new.pending.items) }
+        ensures heard { Lasts result → self.new.over ≡ false → HasHeard port.entry.role (word_in result) self.old self.new }
         ensures quiet { is_some self.new.awaited ≡ true → (self.new.awaited ≡ self.old.awaited) × (desk.new ≡ desk.old) × (till.new ≡ till.old) × (word_in result ≡ None) }
     {
         pay_session::laws::piece_by_piece::<D, T>();
@@ -575,7 +619,7 @@ impl Peer {
         ensures same_till { T.origin till.new ≡ T.origin till.old }
         ensures staff { (word : Word) → result ≡ Fate.Asks word → port.entry.role ≡ roles.All }
         ensures over { self.new.over ≡ false → self.old.over ≡ false }
-        ensures heard { Lasts result → self.new.over ≡ false → Hears port.entry.role (word_in result) (self.old.awaited, self.old.begun, self.old.pending.items) (self.new.awaited, self.new.begun, self.new.pending.items) }
+        ensures heard { Lasts result → self.new.over ≡ false → HasHeard port.entry.role (word_in result) self.old self.new }
         ensures quiet { is_some self.new.awaited ≡ true → (self.new.awaited ≡ self.old.awaited) × (desk.new ≡ desk.old) × (till.new ≡ till.old) × (word_in result ≡ None) }
     {
         pay_session::laws::piece_by_piece::<D, T>();
@@ -608,7 +652,7 @@ impl Peer {
         ensures same_till { T.origin till.new ≡ T.origin till.old }
         ensures staff { (word : Word) → result ≡ Fate.Asks word → port.entry.role ≡ roles.All }
         ensures over { self.new.over ≡ false → self.old.over ≡ false }
-        ensures heard { Lasts result → self.new.over ≡ false → Hears port.entry.role (word_in result) (self.old.awaited, self.old.begun, self.old.pending.items) (self.new.awaited, self.new.begun, self.new.pending.items) }
+        ensures heard { Lasts result → self.new.over ≡ false → HasHeard port.entry.role (word_in result) self.old self.new }
         ensures quiet { is_some self.new.awaited ≡ true → (self.new.awaited ≡ self.old.awaited) × (desk.new ≡ desk.old) × (till.new ≡ till.old) × (word_in result ≡ None) }
     {
         pay_session::laws::piece_by_piece::<D, T>();

@@ -21,8 +21,10 @@ pub struct Ready<C, A> {
     serving: Serving<C, A>,
 }
 
-/// A port for staff. Three lines are words of this port alone, and none of a session. `STOP` ends the service. `BACKUP /backup/a.db` has
-/// the ledger copied to that path, and is answered by `OK 45056`, the bytes that were copied, or by `NO 53 NoBackup`. `STATS` is answered
+/// A port for staff. Four lines are words of this port alone, and none of a session. `STOP` ends the service. `BACKUP /backup/a.db` has
+/// the ledger copied to that path, and is answered by `OK 45056`, the bytes that were copied, or by `NO 53 NoBackup`. `OPEN 19735` is
+/// answered by `OPEN 19735 2` where two accounts owe something else for the week of that day, through it, than what was posted for them, or
+/// by the refusal of a close. `STATS` is answered
 /// by one line, `STATS seconds=9 connections=2 connections_in_all=5 dropped=0 lines=7 accepted=3 again=1 taps=2 corrections=1`,
 /// then ` refused_20=1` for each number of a refusal that occurred, by rising number, and then what an [`Aside`] knows of files. It says of
 /// all lanes together:

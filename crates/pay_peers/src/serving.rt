@@ -3,6 +3,7 @@ ghost use Rattle.std.specs.Prelude.{◌≡◌, [], OnSome};
 ghost use Rattle.pay_serve.specs.Words.{HasShards};
 ghost use Rattle.pay_session.specs.Words.{HasAnsweredAt};
 ghost use Rattle.pay_peers.specs.Backups.{IsAsked};
+ghost use Rattle.pay_peers.specs.OpenWeeks.{IsOpened};
 ghost use Rattle.pay_peers.specs.declared.word.Word.{Word};
 ghost use Rattle.pay_session.specs.declared.port.Role.TheVariants as roles;
 
@@ -163,11 +164,23 @@ impl<C: Clock, A: Aside> Serving<C, A> {
     }
 
     /// Does what staff ask of the service by the connection at a place. There is nothing where memory runs out.
-    fn obey(&mut self, place: usize, word: Word, role: Role) -> Option<()>
-        requires { role ≡ roles.All }
+    fn obey<D: Desk, T: Till>(
+        &mut self,
+        place: usize,
+        word: Word,
+        port: Port<'_>,
+        desk: &mut D,
+        till: &mut T,
+    ) -> Option<()>
+        requires { port.role ≡ roles.All }
         ensures asked { OnSome result (IsAsked A.Copies A.Stops word self.old.aside self.new.aside) }
+        ensures opened { OnSome result (IsOpened D.parts T.Closes T.Opens word (desk.old, till.old) (desk.new, till.new)) }
+        ensures served { HasAnsweredAt D.parts T.Closes (port.entry.zone.now, port.entry.role) (desk.old, till.old) (desk.new, till.new) }
+        ensures same_till { T.origin till.new ≡ T.origin till.old }
     {
-        match (role, word) {
+        pay_session::laws::piece_by_piece::<D, T>();
+        pay_session::laws::close_is_answered::<D, T>();
+        match (port.role, word) {
             (Role::Taps, _) => unreachable!(),
             (Role::All, Word::Stop) => {
                 self.aside.stop();
@@ -183,6 +196,10 @@ impl<C: Clock, A: Aside> Serving<C, A> {
             (Role::All, Word::Backup(path)) => {
                 let peer = self.peers.at(place)?;
                 peer.back_up(self.alloc, path.text(), &mut self.aside)
+            }
+            (Role::All, Word::Open(day)) => {
+                let peer = self.peers.at(place)?;
+                peer.count_open(self.alloc, day.number(), desk, till)
             }
         }
     }
@@ -222,10 +239,11 @@ impl<C: Clock, A: Aside> Serving<C, A> {
         ensures served { HasAnsweredAt D.parts T.Closes (port.entry.zone.now, port.entry.role) (desk.old, till.old) (desk.new, till.new) }
         ensures same_till { T.origin till.new ≡ T.origin till.old }
     {
+        pay_session::laws::piece_by_piece::<D, T>();
         match self.turn(place, port, desk, till) {
             Fate::Waits => {}
             Fate::GoesOn => self.peers.queue(place),
-            Fate::Asks(word) => match self.obey(place, word, port.role) {
+            Fate::Asks(word) => match self.obey(place, word, port, desk, till) {
                 Some(()) => self.peers.queue(place),
                 None => self.lose(place, ErrorKind::OutOfMemory),
             },

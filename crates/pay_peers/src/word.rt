@@ -1,11 +1,15 @@
 //! The words of staff's port, which no session knows.
-ghost use Rattle.std.specs.Prelude.{◌≡◌, ℕ, ◌≤◌, List, [], ◌∷◌, ◌++◌, length, take, IfSome};
+ghost use Rattle.std.specs.Prelude.{◌≡◌, ℕ, ◌≤◌, List, [], ◌∷◌, ◌++◌, length, take, drop, codes, IfSome, if◌then◌else◌};
 ghost use Rattle.std.specs.Char.{is_ascii_graphic};
 ghost use Rattle.std.specs.List.{list_all};
-ghost use Rattle.pay_peers.specs.Lines.{backup_of, is_path, word_at};
+ghost use Rattle.std.specs.Str.{bytes_eq};
+ghost use Rattle.pay_peers.specs.Lines.{backup_of, is_path, open_of, opens, word_at};
+ghost use Rattle.pay_wire.specs.Words.{IsSpelled};
 
+use crate::day::Day;
 use pay_session::Role;
 use pay_wire::limits::MOST_LINE_BYTES;
+use pay_wire::{SpelledCommand, read_command};
 use std::marker::Model;
 
 /// What staff ask of the service itself, each by a line of its own.
@@ -17,6 +21,8 @@ pub enum Word {
     Stats,
     /// `BACKUP PATH`: that the ledger is copied to this path.
     Backup(Line),
+    /// `OPEN DAY`: how many accounts owe something else for the week of this service day, through it, than what was posted for them.
+    Open(Day),
 }
 
 /// Whether each byte is printable ASCII, and none a space.
@@ -48,6 +54,39 @@ fn backup_of(line: &[u8]) -> Option<Word>
     Some(Word::Backup(kept))
 }
 
+/// The word that asks how many accounts are open for the day of a `CLOSE`.
+fn opens(command: Option<SpelledCommand>) -> Option<Word>
+    requires { IfSome command IsSpelled }
+    ensures { result ≡ opens command }
+{
+    match command {
+        Some(SpelledCommand::Close { day }) => Some(Word::Open(Day::new(day))),
+        _ => None,
+    }
+}
+
+/// The same for a day, which stands as in a `CLOSE`.
+fn open_of(day: &[u8]) -> Option<Word>
+    requires { length day.now ≤ 123 }
+    ensures { result ≡ open_of day.now }
+{
+    let mut close = Line::new();
+    close.extend(b"CLOSE ");
+    close.extend(day);
+    opens(read_command(close.text()))
+}
+
+/// The word with an argument that a line of no more than 128 bytes is.
+fn word_with(line: &[u8]) -> Option<Word>
+    requires { length line.now ≤ 128 }
+    ensures { result ≡ (if bytes_eq (take 5 line.now) (codes "OPEN ") then open_of (drop 5 line.now) else backup_of line.now) }
+{
+    match line.strip_prefix(b"OPEN ") {
+        Some(day) => open_of(day),
+        None => backup_of(line),
+    }
+}
+
 /// The word that a line is at a port. As in a session every byte counts, a carriage return too.
 pub fn word_at(role: Role, line: &[u8]) -> Option<Word>
     ensures word { result ≡ word_at role line.now }
@@ -59,7 +98,7 @@ pub fn word_at(role: Role, line: &[u8]) -> Option<Word>
         Role::All => match line {
             b"STOP" => Some(Word::Stop),
             b"STATS" => Some(Word::Stats),
-            _ => backup_of(line),
+            _ => word_with(line),
         },
     }
 }
