@@ -15,7 +15,7 @@ begins_or_ends_with_space text = starts_with nat_eq text (codes " ") || ends_wit
 
 -- what staff ask of a service is no greeting
 abbrev pub is_word_of_staff : Text → Bool
-is_word_of_staff text = bytes_eq text (codes "STOP") || (bytes_eq text (codes "STATS") || starts_with nat_eq text (codes "BACKUP "))
+is_word_of_staff text = bytes_eq text (codes "STOP") || (bytes_eq text (codes "STATS") || (starts_with nat_eq text (codes "BACKUP ") || starts_with nat_eq text (codes "OPEN ")))
 
 -- a line of 1 to 128 printable characters, with no space at either end, which is no word of staff
 unfoldable pub is_greeting : Text → Bool
@@ -79,6 +79,10 @@ unfolding is_greeting
 backup = refl
 
 -- which have to be whole
-longer_words : is_greeting (codes "STOP!") && (is_greeting (codes "stats") && is_greeting (codes "BACKUP")) ≡ true
+open_week : is_greeting (codes "OPEN 19735") ≡ false
+unfolding is_greeting
+open_week = refl
+
+longer_words : is_greeting (codes "STOP!") && (is_greeting (codes "stats") && (is_greeting (codes "BACKUP") && is_greeting (codes "OPEN"))) ≡ true
 unfolding is_greeting
 longer_words = refl

@@ -161,7 +161,7 @@ For a service that stays: a file to which lines that are refused by 1, 15,
 pub const GREETING: &str = "\
 For a service that stays: the line with which each connection has to
 begin. 1 to 128 printable ASCII characters, no space at either end; not
-STOP, STATS or BACKUP PATH";
+STOP, STATS, BACKUP PATH or OPEN DAY";
 
 /// What stands below the program's own help.
 pub const BELOW_PROGRAM: &str = "\

@@ -195,7 +195,7 @@ pub struct StayWords<'a> {
     /// The path of the file that refused lines are kept in.
     pub refused: Option<&'a str>,
     /// The line with which a connection has to begin: 1 to 128 printable ASCII characters, with no space at either end,
-    /// and not `STOP`, not `STATS` and none that begins with `BACKUP `. Without it, any.
+    /// and not `STOP`, not `STATS` and none that begins with `BACKUP ` or `OPEN `. Without it, any.
     pub greeting: Option<&'a str>,
     /// The path of the folder of the shards' journals.
     pub journal: &'a str,
@@ -985,7 +985,9 @@ fn begins_or_ends_with_space(bytes: &[u8]) -> bool
 fn is_word_of_staff(bytes: &[u8]) -> bool
     ensures { result ≡ is_word_of_staff bytes.now }
 {
-    matches!(bytes, b"STOP" | b"STATS") || bytes.starts_with(b"BACKUP ")
+    matches!(bytes, b"STOP" | b"STATS")
+        || bytes.starts_with(b"BACKUP ")
+        || bytes.starts_with(b"OPEN ")
 }
 
 /// The job of a service that ends, where there is a port for each lane.
