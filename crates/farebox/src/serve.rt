@@ -194,6 +194,7 @@ where
         keepers,
         others: _held,
         failed: _failed,
+        loads: _loads,
     } = journals;
     let (begun, kept) = compare_beside(
         &rt,

@@ -54,6 +54,7 @@ where
         words.ledger,
         words.journal,
         start,
+        &journals.loads,
         &closed,
     ) {
         Ok(aside) => aside,
@@ -150,6 +151,7 @@ where
         keepers,
         others: _held,
         failed,
+        loads: _loads,
     } = journals;
     let (begun, kept) = compare_beside(
         &rt,

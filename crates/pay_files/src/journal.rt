@@ -5,6 +5,7 @@ ghost use Rattle.pay_files.specs.Journals.{are_zeros, is_cut_line, may_begin};
 ghost use Rattle.pay_words.specs.declared.limits.TheConstants.{MOST_SHARDS};
 
 use crate::errors::memory_or;
+use crate::loads::Loads;
 use crate::reporting_keeper::ReportingKeeper;
 use pay_jobs::{Fault, FileFault, LineKeeper, whole_bytes};
 use pay_ledger::OpenFault;
@@ -39,6 +40,8 @@ pub struct JournalFiles<R> {
     pub others: Vec<File>,
     /// What is told where one of the keepers fails.
     pub failed: Arc<AtomicBool>,
+    /// What the keepers learn of the loads of their shards.
+    pub loads: Loads,
 }
 
 /// A journal that is open.
@@ -104,6 +107,7 @@ fn all_opened<R: Files<File = File> + Log + AllocGlobal + Copy>(
         keepers: Vec::new(rt.alloc()),
         others: Vec::new(rt.alloc()),
         failed: Arc::new(rt.alloc(), AtomicBool::new(false)).map_err(AllocError::from)?,
+        loads: Loads::new(rt.alloc()),
     };
     for number in 0..shards {
         let path = path_in(rt.alloc(), folder, u64::from(number))?;
@@ -148,6 +152,7 @@ impl<R: Log + Copy> JournalFiles<R> {
             rt,
             path,
             failed: Arc::clone(&self.failed)?,
+            load: self.loads.add()?,
         };
         self.texts.push(past).map_err(AllocError::from)?;
         self.keepers.push(keeper).map_err(AllocError::from)?;

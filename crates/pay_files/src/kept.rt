@@ -265,4 +265,8 @@ impl<K: Keeper, R: Files<File = File> + Log + AllocGlobal + Copy> Keeper for Far
             Err(fault) => Err(fault),
         }
     }
+
+    fn tell(&self, accounts: usize, waiting: usize) {
+        self.keeper.tell(accounts, waiting);
+    }
 }

@@ -4,6 +4,7 @@ use crate::backup::back_up;
 use crate::journal::{folder_of, open_or_make, place_of, settle_folder_of, settle_target};
 use crate::kept::copy_of;
 use crate::last_close::LastClose;
+use crate::loads::Loads;
 use crate::start::{Start, Took};
 use crate::stats::{journal_bytes, memory_bytes, put};
 use pay_log::{Level, Limiter, Log};
@@ -190,16 +191,19 @@ pub struct StaffFiles<R> {
     ledger: String,
     journals: String,
     start: Start,
+    loads: Loads,
     closed: LastClose,
 }
 
 impl<R: Log + Clock + Wait + AllocGlobal + Copy> StaffFiles<R> {
-    /// That of a service with this ledger and journals in this folder, its start and its closes, beside what another of its lanes does.
+    /// That of a service with this ledger and journals in this folder, its start, its loads and its closes, beside what another of its lanes
+    /// does.
     pub fn beside(
         lane: &LaneFiles<R>,
         ledger: &str,
         journals: &str,
         start: Start,
+        loads: &Loads,
         closed: &LastClose,
     ) -> io::Result<StaffFiles<R>> {
         let alloc = lane.rt.alloc();
@@ -208,6 +212,7 @@ impl<R: Log + Clock + Wait + AllocGlobal + Copy> StaffFiles<R> {
             ledger: copy_of(alloc, ledger)?,
             journals: copy_of(alloc, journals)?,
             start,
+            loads: loads.again()?,
             closed: closed.again()?,
         })
     }
@@ -255,6 +260,7 @@ impl<R: Files<File = File> + Log + Clock + Wait + AllocGlobal + Copy> Aside for 
             self.ledger.as_str(),
             self.journals.as_str(),
             self.start,
+            &self.loads,
             &self.closed,
         )
     }
@@ -282,6 +288,7 @@ impl<R: Files<File = File> + Log + Clock + Wait + AllocGlobal + Copy> Aside for 
         let journals = journal_bytes(rt, self.journals.as_str()).ok();
         put(line, "journal_bytes", journals)?;
         put(line, "memory_bytes", memory_bytes(rt))?;
+        self.loads.put(line)?;
         self.put_close(line)
     }
 

@@ -1,5 +1,6 @@
 //! A keeper that reports where it fails.
 
+use crate::loads::Load;
 use pay_jobs::{Command, Keeper, NotKept};
 use pay_log::{Level, Log};
 use std::sync::Arc;
@@ -17,6 +18,8 @@ pub struct ReportingKeeper<K, R> {
     pub path: String,
     /// What is told that it failed.
     pub failed: Arc<AtomicBool>,
+    /// What is told of its shard's load.
+    pub load: Arc<Load>,
 }
 
 impl<K: Keeper, R: Log + Copy> ReportingKeeper<K, R> {
@@ -54,5 +57,9 @@ impl<K: Keeper, R: Log + Copy> Keeper for ReportingKeeper<K, R> {
                 Err(fault)
             }
         }
+    }
+
+    fn tell(&self, accounts: usize, waiting: usize) {
+        self.load.tell(accounts, waiting);
     }
 }
