@@ -17,6 +17,13 @@ wek = refl
 week_of_a_route : unread (at_spot None (AtItem key.Route 1)) (keys_in key.Route) (number (codes "operator") 1 (number (codes "place") 2 (number (codes "week") 3 no_members))) ≡ not_read (at_spot None (AtItem key.Route 1)) (codes "week") ∷ []
 week_of_a_route = refl
 
+-- a name is read of a route, and not of a band
+name_of_a_route : unread (at_spot None (AtItem key.Route 1)) (keys_in key.Route) (member (codes "name") (integer (pos 1)) (number (codes "operator") 1 (number (codes "place") 2 no_members))) ≡ []
+name_of_a_route = refl
+
+name_of_a_band : unread (at_spot None (AtItem key.Band 1)) (keys_in key.Band) (member (codes "name") (integer (pos 1)) no_members) ≡ not_read (at_spot None (AtItem key.Band 1)) (codes "name") ∷ []
+name_of_a_band = refl
+
 cheap_peak : table_said (at_spot None (AtItem key.Single 3)) key.Single (number (codes "from") 1 (number (codes "off") 210 (number (codes "peak") 200 (number (codes "to") 2 no_members)))) ≡ peak_below_off (at_spot None (AtItem key.Single 3)) 200 210 ∷ []
 cheap_peak = refl
 

@@ -1,5 +1,5 @@
 -- What is said of a fare file that is read: keys that nothing reads, and fares that look wrong.
-use Rattle.std.specs.Prelude.{◌≡◌, ℕ, ◌+◌, ◌==◌, ◌||◌, nat_eq, nat_lt, max, Bool, false, List, [], ◌∷◌, ◌++◌, map, Option, Some, None, option_and_then, Result, Ok, Err, Vec, string_bytes, codes, if◌then◌else◌}
+use Rattle.std.specs.Prelude.{◌≡◌, ℕ, ◌+◌, ◌==◌, ◌||◌, ◌&&◌, nat_eq, nat_lt, max, Bool, true, false, List, [], ◌∷◌, ◌++◌, map, Option, Some, None, option_and_then, Result, Ok, Err, Vec, string_bytes, codes, if◌then◌else◌}
 use Rattle.std.specs.List.{list_any}
 use Rattle.std.specs.Cmp.Lexicographic.{pointwise}
 use Rattle.std.specs.declared.alloc.Global.{Global}
@@ -80,9 +80,18 @@ keys_in _ = []
 abbrev pub is_among : List Key → List ℕ → Bool
 is_among known name = list_any (λ k. pointwise nat_eq (key_name k) name) known
 
+-- whether it is a station or a route, of which a name is read beside these
+abbrev pub may_have_name : Option Spot → Bool
+may_have_name (Some (AtItem key.Station number)) = true
+may_have_name (Some (AtItem key.Route number)) = true
+may_have_name _ = false
+
+abbrev pub is_name : TableAt → List ℕ → Bool
+is_name at name = may_have_name at.spot && pointwise nat_eq name (codes "name")
+
 -- each key of a table that is not among those that are read
 abbrev pub unread_key : TableAt → List Key → List ℕ → List Said
-unread_key at known name = if is_among known name then [] else not_read at name ∷ []
+unread_key at known name = if is_among known name || is_name at name then [] else not_read at name ∷ []
 
 abbrev pub unread : TableAt → List Key → Members → List Said
 unread at known no_members = []

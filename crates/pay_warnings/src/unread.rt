@@ -1,11 +1,11 @@
 //! The keys of a table that nothing reads.
 ghost use Rattle.std.specs.Prelude.{◌≡◌, IfOk, [], ◌∷◌, string_bytes};
 ghost use Rattle.toml.specs.View.{table_view};
-ghost use Rattle.pay_warnings.specs.Warnings.{Adds, says_of, unread, unread_key};
+ghost use Rattle.pay_warnings.specs.Warnings.{Adds, is_name, may_have_name, says_of, unread, unread_key};
 
 use crate::read_keys::is_among;
 use crate::warning::{Concern, TableAt, Warning};
-use pay_fare_file::Key;
+use pay_fare_file::{Key, Spot};
 use std::alloc::AllocError;
 use toml::Table;
 
@@ -40,9 +40,25 @@ fn add_key(
 ) -> Result<(), AllocError>
     ensures { IfOk result (λ _. Adds (unread_key at known.now (string_bytes name.now)) warnings.old warnings.new) }
 {
-    if is_among(known, name.as_str()) {
+    if is_among(known, name.as_str()) || is_name(at, name.as_str()) {
         return Ok(());
     }
     let name = name.clone()?;
     add(warnings, at, Concern::NotRead(name))
+}
+
+/// Whether it is the name of a station or of a route, which `explain` reads.
+fn is_name(at: TableAt, name: &str) -> bool
+    ensures { result ≡ is_name at name.now }
+{
+    may_have_name(at.spot) && name == "name"
+}
+
+fn may_have_name(spot: Option<Spot>) -> bool
+    ensures { result ≡ may_have_name spot }
+{
+    match spot {
+        Some(Spot::AtItem(Key::Station, _)) | Some(Spot::AtItem(Key::Route, _)) => true,
+        _ => false,
+    }
 }
