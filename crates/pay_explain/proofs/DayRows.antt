@@ -36,7 +36,7 @@ boarded second = record { filled = false; first = 1; second = 1; stamp = record 
 
 -- the text of that day for boardings, by their own reason
 abbrev text_of : List Touch → List ℕ
-text_of taps = day_text editions [] taps 19_730 (day_reason sample (bus_journeys editions taps))
+text_of taps = day_text [] editions [] taps 19_730 (day_reason sample (bus_journeys editions taps))
 
 -- the three boardings of the Hopper rule
 three_boardings : text_of (map boarded (25_200 ∷ 28_200 ∷ 30_200 ∷ []))

@@ -1,7 +1,8 @@
 -- The journeys of a day as lines.
-use Rattle.std.specs.Prelude.{◌≡◌, ℕ, List, ◌++◌, slice_get, option_map, Option, codes, refl}
+use Rattle.std.specs.Prelude.{◌≡◌, ℕ, List, [], ◌∷◌, ◌++◌, slice_get, option_map, Option, codes, refl}
 use Rattle.std.specs.Fmt.{digits}
 use Rattle.std.specs.Option.{option_and_then}
+use Rattle.pay_names.specs.Words.{Named}
 use Rattle.pay_tables.specs.Words.{FareEditions}
 use Rattle.pay_rules.specs.declared.tap.Touch.{Touch}
 use Rattle.pay_rules.specs.declared.journey.Journey.{Journey}
@@ -27,8 +28,8 @@ why_text (Rail why) = rail_text why.day why.reason
 why_text (Boarding why) = boarding_text why.day why.hopper why.reason
 
 -- what it costs, when it began, where it went, and why it costs that
-abbrev pub line_text : Line → List ℕ
-line_text line = head_text line.fare ++ (clock_text line.moment.second ++ (codes " " ++ (route_text line.route ++ (codes ", " ++ why_text line.why))))
+abbrev pub line_text : Named → Line → List ℕ
+line_text names line = head_text line.fare ++ (clock_text line.moment.second ++ (codes " " ++ (route_text names line.route ++ (codes ", " ++ why_text line.why))))
 
 -- the line of a journey by rail, by the reason at its place
 abbrev pub rail_line : FareEditions → List Journey → ListedJourney → Option Line
@@ -60,14 +61,28 @@ line_of editions journeys taps one = line_by editions journeys taps one one.mode
 
 -- ---- worked rows, at 09:10:00 of Monday, 2024-01-08
 
+abbrev line_by_names : Named → ℕ → Route → RailReason → List ℕ
+line_by_names names fare route reason =
+    line_text names (record { fare = fare; moment = record { utc = 1_704_705_000; day = 19_730; second = 33_000 }; route = route; why = Rail (record { reason = reason; day = 19_730 }) })
+
 abbrev line_at_ten_past_nine : ℕ → Route → RailReason → List ℕ
-line_at_ten_past_nine fare route reason =
-    line_text (record { fare = fare; moment = record { utc = 1_704_705_000; day = 19_730; second = 33_000 }; route = route; why = Rail (record { reason = reason; day = 19_730 }) })
+line_at_ten_past_nine = line_by_names []
 
 ride : line_at_ten_past_nine 340 (route.Legs 10 12 1) (SingleFare (record { from = 1; to = 2 }) Morning)
     ≡ codes "   3.40  09:10:00 rail 10 to 12, zones 1 to 2, peak (morning)"
 unfolding digits
 ride = refl
+
+-- where place 12 alone has a name, and where both have one
+to_the_castle : line_by_names ((12, codes "Castle") ∷ []) 340 (route.Legs 10 12 1) (SingleFare (record { from = 1; to = 2 }) Morning)
+    ≡ codes "   3.40  09:10:00 rail 10 to Castle (12), zones 1 to 2, peak (morning)"
+unfolding digits
+to_the_castle = refl
+
+from_the_abbey : line_by_names ((10, codes "Abbey") ∷ (12, codes "Castle") ∷ []) 340 (route.Legs 10 12 1) (SingleFare (record { from = 1; to = 2 }) Morning)
+    ≡ codes "   3.40  09:10:00 rail Abbey (10) to Castle (12), zones 1 to 2, peak (morning)"
+unfolding digits
+from_the_abbey = refl
 
 two_linked_legs : line_at_ten_past_nine 370 (route.Legs 14 11 2) (SingleFare (record { from = 1; to = 3 }) Morning)
     ≡ codes "   3.70  09:10:00 rail 14 to 11 by 2 legs, zones 1 to 3, peak (morning)"

@@ -1,5 +1,6 @@
 -- Where a journey went, in words.
-use Rattle.std.specs.Prelude.{ℕ, ◌+◌, ◌==◌, if◌then◌else◌, List, ◌++◌, length, codes, decimal}
+use Rattle.std.specs.Prelude.{ℕ, ◌+◌, ◌==◌, if◌then◌else◌, List, ◌++◌, length, Option, Some, None, codes, decimal}
+use Rattle.pay_names.specs.Words.{Named, name_at}
 use Rattle.pay_rules.specs.declared.tap.Kind.TheVariants as kind
 use Rattle.pay_rules.specs.Taps.{same_kind}
 use Rattle.pay_rules.specs.LinkedLegs.{last_leg}
@@ -15,11 +16,19 @@ route_of (journey.Same leg) = Station leg.entry.place
 route_of (journey.Lone tap) = if same_kind tap.kind kind.Out then Out tap.place else In tap.place
 route_of (journey.Bus tap pays) = Bus tap.place
 
-abbrev pub route_text : Route → List ℕ
-route_text (Legs from to legs) =
-    if legs == 1 then codes "rail " ++ (decimal from ++ (codes " to " ++ decimal to))
-    else codes "rail " ++ (decimal from ++ (codes " to " ++ (decimal to ++ (codes " by " ++ (decimal legs ++ codes " legs")))))
-route_text (Station station) = codes "rail in and out at " ++ decimal station
-route_text (In station) = codes "rail in at " ++ decimal station
-route_text (Out station) = codes "rail out at " ++ decimal station
-route_text (Bus route) = codes "bus " ++ decimal route
+-- a place, by its name, if it has one, and its number
+abbrev pub text_by_name : ℕ → Option (List ℕ) → List ℕ
+text_by_name place None = decimal place
+text_by_name place (Some name) = name ++ (codes " (" ++ (decimal place ++ codes ")"))
+
+abbrev pub place_text : Named → ℕ → List ℕ
+place_text names place = text_by_name place (name_at place names)
+
+abbrev pub route_text : Named → Route → List ℕ
+route_text names (Legs from to legs) =
+    if legs == 1 then codes "rail " ++ (place_text names from ++ (codes " to " ++ place_text names to))
+    else codes "rail " ++ (place_text names from ++ (codes " to " ++ (place_text names to ++ (codes " by " ++ (decimal legs ++ codes " legs")))))
+route_text names (Station station) = codes "rail in and out at " ++ place_text names station
+route_text names (In station) = codes "rail in at " ++ place_text names station
+route_text names (Out station) = codes "rail out at " ++ place_text names station
+route_text names (Bus route) = codes "bus " ++ place_text names route

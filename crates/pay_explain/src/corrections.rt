@@ -5,10 +5,11 @@ ghost use Rattle.std.specs.String.{string_bytes};
 ghost use Rattle.pay_explain.specs.Corrections.{correction_line, corrections_text, form_text, is_about, place_of, tap_of};
 
 use crate::amounts::Pounds;
-use crate::routes::Route;
+use crate::routes::{NamedRoute, Route};
 use crate::sentences::When;
 use pay_day::Moment;
 use pay_fix::{FixSet, day_named};
+use pay_names::Names;
 use pay_rules::{Fix, Kind, Tap, What};
 use pay_taps::TapSet;
 use pay_why::{FixReason, fix_reason};
@@ -17,7 +18,9 @@ use std::fmt;
 
 /// A correction as a line: `         Void 3 1 of tap 1 1, rail in at 10 at 07:00:00: stands`.
 #[derive(Clone, Copy)]
-pub struct CorrectionLine {
+pub struct CorrectionLine<'a> {
+    /// The names of places.
+    pub names: &'a Names,
     /// The service day of which is spoken.
     pub day: u32,
     /// The correction.
@@ -30,7 +33,8 @@ pub struct CorrectionLine {
 
 /// A tap, for a service day: `rail in at 10 at 07:00:00`.
 #[derive(Clone, Copy)]
-struct Tapped {
+struct Tapped<'a> {
+    names: &'a Names,
     day: u32,
     stamp: Moment,
     place: u16,
@@ -39,7 +43,8 @@ struct Tapped {
 
 /// What a correction is of, for a service day.
 #[derive(Clone, Copy)]
-struct Subject {
+struct Subject<'a> {
+    names: &'a Names,
     day: u32,
     tap: Option<Tap>,
     what: What,
@@ -49,14 +54,17 @@ struct Subject {
 #[derive(Clone, Copy)]
 struct Effect(FixReason);
 
-impl fmt::Display for Tapped {
+impl<'a> fmt::Display for Tapped<'a> {
     ghost use Rattle.std.specs.Prelude.{Some};
     ghost use Rattle.pay_explain.specs.Corrections.{tap_text};
 
-    ghost output = { λ tap. Some (tap_text tap.day tap.stamp tap.place tap.kind) };
+    ghost output = { λ tap. Some (tap_text tap.names.now tap.day tap.stamp tap.place tap.kind) };
 
     fn fmt<W: fmt::Write>(&self, f: &mut fmt::Formatter<W>) -> fmt::Result {
-        let place = place_of(self.place, self.kind);
+        let place = NamedRoute {
+            names: self.names,
+            route: place_of(self.place, self.kind),
+        };
         let when = When {
             day: self.day,
             moment: self.stamp,
@@ -65,18 +73,20 @@ impl fmt::Display for Tapped {
     }
 }
 
-impl fmt::Display for Subject {
+impl<'a> fmt::Display for Subject<'a> {
     ghost use Rattle.std.specs.Prelude.{Some};
     ghost use Rattle.pay_explain.specs.Corrections.{subject_text};
 
-    ghost output = { λ it. Some (subject_text it.day it.tap it.what) };
+    ghost output = { λ it. Some (subject_text it.names.now it.day it.tap it.what) };
 
     fn fmt<W: fmt::Write>(&self, f: &mut fmt::Formatter<W>) -> fmt::Result {
+        let names = self.names;
         let day = self.day;
         match self.what {
             What::Void(reader, seq) => match self.tap {
                 Some(tap) => {
                     let tap = Tapped {
+                        names,
                         day,
                         stamp: tap.stamp,
                         place: tap.place,
@@ -88,6 +98,7 @@ impl fmt::Display for Subject {
             },
             What::Fill(stamp, place, kind) => {
                 let tap = Tapped {
+                    names,
                     day,
                     stamp,
                     place,
@@ -119,17 +130,18 @@ impl fmt::Display for Effect {
     }
 }
 
-impl fmt::Display for CorrectionLine {
+impl<'a> fmt::Display for CorrectionLine<'a> {
     ghost use Rattle.std.specs.Prelude.{Some};
     ghost use Rattle.pay_explain.specs.Corrections.{correction_text};
 
-    ghost output = { λ line. Some (correction_text line.day line.tap line.reason line.fix) };
+    ghost output = { λ line. Some (correction_text line.names.now line.day line.tap line.reason line.fix) };
 
     fn fmt<W: fmt::Write>(&self, f: &mut fmt::Formatter<W>) -> fmt::Result {
         let form = form_of(&self.fix.what);
         let staff = self.fix.staff;
         let seq = self.fix.seq;
         let subject = Subject {
+            names: self.names,
             day: self.day,
             tap: self.tap,
             what: self.fix.what,
@@ -185,15 +197,17 @@ fn is_about(named: Option<u32>, day: u32) -> bool
 /// Adds the line of an accepted correction, if it is about a day.
 fn push_correction(
     text: &mut String,
+    names: &Names,
     taps: &TapSet,
     fixes: &FixSet,
     day: u32,
     fix: &Fix,
 ) -> Result<(), AllocError>
-    ensures { OnOk result (string_bytes text.new ≡ string_bytes text.old ++ correction_line taps.now fixes.now day fix.now) }
+    ensures { OnOk result (string_bytes text.new ≡ string_bytes text.old ++ correction_line names.now taps.now fixes.now day fix.now) }
 {
     if is_about(day_named(taps, fixes, &fix.what), day) {
         let line = CorrectionLine {
+            names,
             day,
             fix: *fix,
             tap: tap_of(taps, &fix.what),
@@ -207,15 +221,16 @@ fn push_correction(
 /// Adds the lines of the accepted corrections about a day, and of those that name none, in the order of their numbers.
 pub fn push_corrections(
     text: &mut String,
+    names: &Names,
     taps: &TapSet,
     fixes: &FixSet,
     day: u32,
 ) -> Result<(), AllocError>
-    ensures { OnOk result (string_bytes text.new ≡ string_bytes text.old ++ corrections_text taps.now fixes.now day) }
+    ensures { OnOk result (string_bytes text.new ≡ string_bytes text.old ++ corrections_text names.now taps.now fixes.now day) }
 {
     let accepted = fixes.as_slice();
     for fix in accepted {
-        push_correction(text, taps, fixes, day, fix)?;
+        push_correction(text, names, taps, fixes, day, fix)?;
     }
     Ok(())
 }

@@ -10,6 +10,7 @@ use crate::day::day_text;
 use crate::journeys::{boardings_of, cells_on, rail_journeys};
 use crate::week_days::week_text;
 use pay_fix::{FixSet, effective};
+use pay_names::Names;
 use pay_rules::{Journey, Touch};
 use pay_tables::Editions;
 use pay_taps::TapSet;
@@ -19,51 +20,54 @@ use std::alloc::{AllocError, Global};
 /// The text of a service day, by all journeys by rail and all boardings of an account.
 fn text_of_journeys(
     alloc: Global,
+    names: &Names,
     editions: &Editions,
     journeys: &[Journey],
     boardings: &[Touch],
     day: u32,
 ) -> Result<String, AllocError>
     requires { length journeys.now + length boardings.now ≤ MOST_TOUCHES }
-    ensures { IfOk result (λ text. string_bytes text ≡ text_of_journeys editions.now journeys.now boardings.now day) }
+    ensures { IfOk result (λ text. string_bytes text ≡ text_of_journeys names.now editions.now journeys.now boardings.now day) }
 {
     pay_why::laws::reasons_by_sums(editions);
     let cells = cells_on(editions, journeys, boardings, day);
     let reason = day_reason(editions.on(day), &cells);
-    day_text(alloc, editions, journeys, boardings, day, &reason)
+    day_text(alloc, names, editions, journeys, boardings, day, &reason)
 }
 
 /// The text of a service day, by an account's effective taps in order.
 #[tactic(auto, using(crate::proofs::Counts::both_kinds))]
 fn text_of_touches(
     alloc: Global,
+    names: &Names,
     editions: &Editions,
     touches: &[Touch],
     day: u32,
 ) -> Result<String, AllocError>
     requires { length touches.now ≤ MOST_TOUCHES }
-    ensures { IfOk result (λ text. string_bytes text ≡ text_of_touches editions.now touches.now day) }
+    ensures { IfOk result (λ text. string_bytes text ≡ text_of_touches names.now editions.now touches.now day) }
 {
     let journeys = rail_journeys(alloc, editions, touches)?;
     let boardings = boardings_of(alloc, touches)?;
-    text_of_journeys(alloc, editions, &journeys, &boardings, day)
+    text_of_journeys(alloc, names, editions, &journeys, &boardings, day)
 }
 
 /// Why a service day was charged, by the accepted taps and corrections of an account: a line for each journey
 /// of that day, in the order of their first taps, those of its sums, and one for each correction about the day, or
-/// that names nothing: what it does now. An `Err` is out of memory.
+/// that names nothing: what it does now. Places are told by their names and numbers. An `Err` is out of memory.
 pub fn explained_day(
     alloc: Global,
+    names: &Names,
     editions: &Editions,
     taps: &TapSet,
     fixes: &FixSet,
     day: u32,
 ) -> Result<String, AllocError>
-    ensures { IfOk result (λ text. string_bytes text ≡ explained_day editions.now (record { taps = taps.now; fixes = fixes.now }) day) }
+    ensures { IfOk result (λ text. string_bytes text ≡ explained_day names.now editions.now (record { taps = taps.now; fixes = fixes.now }) day) }
 {
     let touches = effective(alloc, taps, fixes)?;
-    let mut text = text_of_touches(alloc, editions, &touches, day)?;
-    push_corrections(&mut text, taps, fixes, day)?;
+    let mut text = text_of_touches(alloc, names, editions, &touches, day)?;
+    push_corrections(&mut text, names, taps, fixes, day)?;
     Ok(text)
 }
 

@@ -3,10 +3,11 @@ ghost use Rattle.std.specs.Prelude.{◌≡◌};
 ghost use Rattle.pay_explain.specs.Lines.{rail_line, boarding_line, line_of};
 
 use crate::amounts::{Clock, Head};
-use crate::routes::{Route, route_of};
+use crate::routes::{NamedRoute, Route, route_of};
 use crate::sentences::{BoardingWhy, RailWhy};
 use pay_day::Moment;
 use pay_money::Pence;
+use pay_names::Names;
 use pay_rules::{Journey, Touch};
 use pay_tables::Editions;
 use pay_why::{ListedJourney, Mode, boarding_reason, rail_reason_at};
@@ -21,7 +22,7 @@ pub enum Why {
     Boarding(BoardingWhy),
 }
 
-/// A journey as a line: `   3.40  09:10:00 rail 10 to 12, zones 1 to 2, peak (morning)`.
+/// A journey of a line.
 #[derive(Clone, Copy)]
 pub struct Line {
     /// What it costs by itself, before any cap.
@@ -48,17 +49,29 @@ impl fmt::Display for Why {
     }
 }
 
-impl fmt::Display for Line {
+/// A journey as a line: `   3.40  09:10:00 rail Abbey (10) to 12, zones 1 to 2, peak (morning)`.
+#[derive(Clone, Copy)]
+pub struct NamedLine<'a> {
+    /// The names of places.
+    pub names: &'a Names,
+    /// The journey.
+    pub line: Line,
+}
+
+impl<'a> fmt::Display for NamedLine<'a> {
     ghost use Rattle.std.specs.Prelude.{Some};
     ghost use Rattle.pay_explain.specs.Lines.{line_text};
 
-    ghost output = { λ line. Some (line_text line) };
+    ghost output = { λ it. Some (line_text it.names.now it.line) };
 
     fn fmt<W: fmt::Write>(&self, f: &mut fmt::Formatter<W>) -> fmt::Result {
-        let fare = Head(self.fare);
-        let clock = Clock(self.moment);
-        let route = self.route;
-        let why = self.why;
+        let fare = Head(self.line.fare);
+        let clock = Clock(self.line.moment);
+        let route = NamedRoute {
+            names: self.names,
+            route: self.line.route,
+        };
+        let why = self.line.why;
         write!(f, "{fare}{clock} {route}, {why}")
     }
 }

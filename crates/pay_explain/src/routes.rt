@@ -2,8 +2,33 @@
 ghost use Rattle.std.specs.Prelude.{◌≡◌};
 ghost use Rattle.pay_explain.specs.Routes.{route_of};
 
+use pay_names::Names;
 use pay_rules::{Journey, Kind};
 use std::fmt;
+
+/// A place, printed as `Abbey (10)`, or as `10` where it has no name.
+#[derive(Clone, Copy)]
+pub struct NamedPlace<'a> {
+    /// The names of places.
+    pub names: &'a Names,
+    /// The number of the place.
+    pub number: u16,
+}
+
+impl<'a> fmt::Display for NamedPlace<'a> {
+    ghost use Rattle.std.specs.Prelude.{Some};
+    ghost use Rattle.pay_explain.specs.Routes.{place_text};
+
+    ghost output = { λ place. Some (place_text place.names.now place.number) };
+
+    fn fmt<W: fmt::Write>(&self, f: &mut fmt::Formatter<W>) -> fmt::Result {
+        let number = self.number;
+        match self.names.of(number) {
+            Some(name) => write!(f, "{name} ({number})"),
+            None => write!(f, "{number}"),
+        }
+    }
+}
 
 /// Where a journey went, by the numbers of its stations or its route.
 #[derive(Clone, Copy)]
@@ -27,20 +52,52 @@ pub enum Route {
     Bus(u16),
 }
 
-impl fmt::Display for Route {
+/// Where a journey went, printed with the names of places.
+#[derive(Clone, Copy)]
+pub struct NamedRoute<'a> {
+    /// The names of places.
+    pub names: &'a Names,
+    /// Where the journey went.
+    pub route: Route,
+}
+
+impl<'a> fmt::Display for NamedRoute<'a> {
     ghost use Rattle.std.specs.Prelude.{Some};
     ghost use Rattle.pay_explain.specs.Routes.{route_text};
 
-    ghost output = { λ route. Some (route_text route) };
+    ghost output = { λ it. Some (route_text it.names.now it.route) };
 
     fn fmt<W: fmt::Write>(&self, f: &mut fmt::Formatter<W>) -> fmt::Result {
-        match self {
-            Route::Legs { from, to, legs: 1 } => write!(f, "rail {from} to {to}"),
-            Route::Legs { from, to, legs } => write!(f, "rail {from} to {to} by {legs} legs"),
-            Route::Station(station) => write!(f, "rail in and out at {station}"),
-            Route::In(station) => write!(f, "rail in at {station}"),
-            Route::Out(station) => write!(f, "rail out at {station}"),
-            Route::Bus(route) => write!(f, "bus {route}"),
+        let names = self.names;
+        match self.route {
+            Route::Legs { from, to, legs } => {
+                let from = NamedPlace {
+                    names,
+                    number: from,
+                };
+                let to = NamedPlace { names, number: to };
+                if legs == 1 {
+                    write!(f, "rail {from} to {to}")
+                } else {
+                    write!(f, "rail {from} to {to} by {legs} legs")
+                }
+            }
+            Route::Station(number) => {
+                let station = NamedPlace { names, number };
+                write!(f, "rail in and out at {station}")
+            }
+            Route::In(number) => {
+                let station = NamedPlace { names, number };
+                write!(f, "rail in at {station}")
+            }
+            Route::Out(number) => {
+                let station = NamedPlace { names, number };
+                write!(f, "rail out at {station}")
+            }
+            Route::Bus(number) => {
+                let route = NamedPlace { names, number };
+                write!(f, "bus {route}")
+            }
         }
     }
 }

@@ -2,6 +2,7 @@
 use Rattle.std.specs.Prelude.{◌≡◌, ◌⊎◌, ℕ, Bool, true, false, List, [], ◌++◌, Option, None}
 use Rattle.std.specs.Io.KnownBytes.{Appends}
 use Rattle.pay_day.specs.Words.{monday}
+use Rattle.pay_names.specs.Words.{Named, named_in_text}
 use Rattle.pay_rules.specs.Accepted.{Accepted}
 use Rattle.pay_rules.specs.State.{accepted_of}
 use Rattle.pay_tables.specs.Words.{FareEditions}
@@ -37,11 +38,11 @@ query account day week = record { account = account; day = day; week = week }
 
 -- ---- the text, by what an account has accepted
 
--- the day with its date, and why it was charged
-pub record IsDayText (editions : FareEditions) (accepted : Accepted) (account day : ℕ) (text : List ℕ) : Type 0 where
+-- the day with its date, and why it was charged, where places have these names
+pub record IsDayText (names : Named) (editions : FareEditions) (accepted : Accepted) (account day : ℕ) (text : List ℕ) : Type 0 where
   pub of : DatedDay
   pub of_day : of.day ≡ day
-  pub says : text ≡ day_head account of ++ explained_day editions accepted day
+  pub says : text ≡ day_head account of ++ explained_day names editions accepted day
 
 -- the days of the week with their dates, and why it was charged
 pub record IsWeekText (editions : FareEditions) (accepted : Accepted) (account day : ℕ) (text : List ℕ) : Type 0 where
@@ -50,22 +51,22 @@ pub record IsWeekText (editions : FareEditions) (accepted : Accepted) (account d
   pub through_day : of.through.day ≡ day
   pub says : text ≡ week_head account of ++ explained_week editions accepted day
 
-abbrev pub IsTextBy : Bool → FareEditions → Accepted → ℕ → ℕ → List ℕ → Type 0
-IsTextBy true = IsWeekText
-IsTextBy false = IsDayText
+abbrev pub IsTextBy : Bool → Named → FareEditions → Accepted → Query → List ℕ → Type 0
+IsTextBy true names editions accepted query = IsWeekText editions accepted query.account query.day
+IsTextBy false names editions accepted query = IsDayText names editions accepted query.account query.day
 
-abbrev pub IsText : FareEditions → Accepted → Query → List ℕ → Type 0
-IsText editions accepted query = IsTextBy query.week editions accepted query.account query.day
+abbrev pub IsText : Named → FareEditions → Accepted → Query → List ℕ → Type 0
+IsText names editions accepted query = IsTextBy query.week names editions accepted query
 
 -- ---- how the job ends
 
 -- A fare file and a zone are read, each line of all journals, one after the other, is accepted or was before, and this is the text of what
--- the account has then accepted.
+-- the account has then accepted, with the names that the fare file gives to places.
 pub record IsExplained (given : Given) (query : Query) (text : List ℕ) : Type 0 where
   pub machine : Machine
   pub begins : Begins given.fares given.zone None machine
   pub accepted : AreAllPriced (outcome [] machine (all_requests given.journals)).replies
-  pub says : IsText machine.editions (numbered (accepted_of (outcome [] machine (all_requests given.journals)).after.accounts query.account)) query text
+  pub says : IsText (named_in_text given.fares) machine.editions (numbered (accepted_of (outcome [] machine (all_requests given.journals)).after.accounts query.account)) query text
 
 -- The job ended by itself: the text was written, and nothing else.
 abbrev pub ExplainWritten : Given → Query → Option (List ℕ) → Option (List ℕ) → Type 0

@@ -13,6 +13,7 @@ use crate::sets::{fix_set, sets_of, tap_set};
 use crate::texts::text_of;
 use pay_book::Book;
 use pay_jobs::{Fault, begin_service, replayed_texts};
+use pay_names::{Names, names_of};
 use pay_run::replayed_lines;
 use pay_shard::Shard;
 use pay_wire::{KnownWriter, send_line};
@@ -20,7 +21,8 @@ use std::alloc::{AllocError, Global};
 
 /// Writes why a service day of an account was charged, counted from 1970-01-01, or its week through that day: by what the account has
 /// accepted of journals, which are given as texts and replayed one after the other. The fare file is read before the zone, and both
-/// before the journals. A line that is not accepted is told by the number of its journal, from 0 on; then nothing is written.
+/// before the journals. A line that is not accepted is told by the number of its journal, from 0 on; then nothing is written. Places have
+/// the names that the fare file gives them.
 pub fn explain_texts<W: KnownWriter>(
     alloc: Global,
     fares: &str,
@@ -74,23 +76,34 @@ fn explained(
     let replayed = replayed_texts(alloc, read.editions, &read.zone, texts, 0)?;
     // What was replayed is what the shard has.
     replayed_lines(&replayed.0);
-    let text = text_by(alloc, replayed.0.shard(), account, day, week)?;
+    let names = names_of(alloc, fares)?;
+    let text = text_by(alloc, &names, replayed.0.shard(), account, day, week)?;
     Ok(text)
 }
 
 /// The same by what a shard has.
 fn text_by(
     alloc: Global,
+    names: &Names,
     shard: &Shard<Book>,
     account: u32,
     day: u32,
     week: bool,
 ) -> Result<String, AllocError>
     requires { IsDay day }
-    ensures { IfOk result (λ text. IsText shard.now.editions (numbered (accepted_of (state_now shard.now) account)) (query account day week) (string_bytes text)) }
+    ensures { IfOk result (λ text. IsText names.now shard.now.editions (numbered (accepted_of (state_now shard.now) account)) (query account day week) (string_bytes text)) }
 {
     let sets = sets_of(alloc, shard, account)?;
     let taps = tap_set(alloc, sets.taps())?;
     let fixes = fix_set(alloc, sets.fixes())?;
-    text_of(alloc, shard.editions(), &taps, &fixes, account, day, week)
+    text_of(
+        alloc,
+        names,
+        shard.editions(),
+        &taps,
+        &fixes,
+        account,
+        day,
+        week,
+    )
 }

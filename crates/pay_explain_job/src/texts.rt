@@ -9,6 +9,7 @@ use crate::heads::{with_day_head, with_week_head};
 use pay_day::monday;
 use pay_explain::{explained_day, explained_week};
 use pay_fix::FixSet;
+use pay_names::Names;
 use pay_tables::Editions;
 use pay_taps::TapSet;
 use std::alloc::{AllocError, Global};
@@ -16,6 +17,7 @@ use std::alloc::{AllocError, Global};
 /// Why a service day of an account was charged, with its date.
 fn day_text(
     alloc: Global,
+    names: &Names,
     editions: &Editions,
     taps: &TapSet,
     fixes: &FixSet,
@@ -23,9 +25,9 @@ fn day_text(
     day: u32,
 ) -> Result<String, AllocError>
     requires { IsDay day }
-    ensures { IfOk result (λ text. IsDayText editions.now (record { taps = taps.now; fixes = fixes.now }) account day (string_bytes text)) }
+    ensures { IfOk result (λ text. IsDayText names.now editions.now (record { taps = taps.now; fixes = fixes.now }) account day (string_bytes text)) }
 {
-    let explained = explained_day(alloc, editions, taps, fixes, day)?;
+    let explained = explained_day(alloc, names, editions, taps, fixes, day)?;
     with_day_head(alloc, account, DatedDay::of(day), explained.as_str())
 }
 
@@ -52,9 +54,10 @@ fn week_text(
     )
 }
 
-/// Either of these. An `Err` is out of memory.
+/// Either of these: of a day, places have these names. An `Err` is out of memory.
 pub fn text_of(
     alloc: Global,
+    names: &Names,
     editions: &Editions,
     taps: &TapSet,
     fixes: &FixSet,
@@ -63,11 +66,11 @@ pub fn text_of(
     week: bool,
 ) -> Result<String, AllocError>
     requires { IsDay day }
-    ensures { IfOk result (λ text. IsText editions.now (record { taps = taps.now; fixes = fixes.now }) (query account day week) (string_bytes text)) }
+    ensures { IfOk result (λ text. IsText names.now editions.now (record { taps = taps.now; fixes = fixes.now }) (query account day week) (string_bytes text)) }
 {
     if week {
         week_text(alloc, editions, taps, fixes, account, day)
     } else {
-        day_text(alloc, editions, taps, fixes, account, day)
+        day_text(alloc, names, editions, taps, fixes, account, day)
     }
 }

@@ -21,5 +21,5 @@ returns c =
     let taps = c.in_ok-taps.ensures ∙ ap (set_of tap_number) (c.taps.ensures.value ∙ ap (λ (s : SetsParts). s.taps) sets) in
     let fixes = c.in_ok-fixes.ensures ∙ ap (set_of fix_number) (c.fixes.ensures.value ∙ ap (λ (s : SetsParts). s.fixes) sets) in
     IfOk-weaker c.text_of.result _ _ (λ text is.
-    subst (λ (e : FareEditions). IsText e (numbered accepted) asked (string_bytes text)) c.editions.ensures
-    (subst (λ (a : Accepted). IsText c.editions.result.now a asked (string_bytes text)) (λ i. record { taps = taps i; fixes = fixes i }) is)) c.text_of.ensures
+    subst (λ (e : FareEditions). IsText c.args.names.now e (numbered accepted) asked (string_bytes text)) c.editions.ensures
+    (subst (λ (a : Accepted). IsText c.args.names.now c.editions.result.now a asked (string_bytes text)) (λ i. record { taps = taps i; fixes = fixes i }) is)) c.text_of.ensures
