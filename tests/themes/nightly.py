@@ -202,6 +202,29 @@ class Nightly(Theme):
         came, heard = self.close([whole(["DONE 8 0"])], "8", "--week-before")
         self.check("before the first week there is none", heard, answers(b"CLOSE 8\nQUIT\n"))
 
+    def test_open_weeks(self):
+        """After the close it says which of the weeks before have open accounts."""
+        done, closed = whole(NEXT_DAY), self.closed(19731, TUESDAY, 1, -10)
+        weeks = whole(["OPEN 19715 0", "OPEN 19722 3", "OPEN 19729 1"])
+        came, heard = self.close([done, weeks], "19731", "--open", "3")
+        told = (
+            "nightly: week through day 19722 (2023-12-31): 3 open accounts\n"
+            "nightly: week through day 19729 (2024-01-07): 1 open account\n"
+        )
+        self.check("two of three", came, answers((closed + told).encode()))
+        self.check("what is sent", heard, answers(b"CLOSE 19731\nQUIT\nOPEN 19715\nOPEN 19722\nOPEN 19729\nQUIT\n"))
+        none = "nightly: no open accounts in the weeks before\n"
+        came, _ = self.close([done, whole(["OPEN 19729 0"])], "19731", "--open", "1")
+        self.check("none", came, answers((closed + none).encode()))
+        for reply in "NO 43 Store", "OPEN 19728 1", "OPEN 19729 01":
+            came, _ = self.close([done, whole([reply])], "19731", "--open", "1")
+            why = f"nightly: open accounts: the service answers {reply}\n"
+            self.check(reply, came, End(1, closed.encode(), why.encode()))
+        came, heard = self.close([whole(["DONE 8 0"])], "8", "--open", "2")
+        first = self.closed(8, "1970-01-09", 0, 0)
+        self.check("before the first week there is none", came, answers((first + none).encode()))
+        self.check("and nobody is asked", heard, answers(b"CLOSE 8\nQUIT\n"))
+
     def test_closes_of_the_program(self):
         """The replies of the program are taken: to a close, to the same once more, to the next day's, and two
         refusals."""
@@ -367,6 +390,32 @@ class Service(Theme):
             self.check("a stop", ran([STAFF, "STOP"], **control), answers(b"BYE\n"))
             wanted = End(0, b"", both_listening(service.port, service.control))
             self.check("how it ends", service.ended(), wanted)
+
+
+    def test_open_weeks(self):
+        """A week is open until its Sunday is closed, and again once a late tap came."""
+        journals, ledger = new_folder(self.folder), os.path.join(self.folder, "ledger")
+        into = os.path.join(self.folder, "postings")
+        sunday, next_day, none = "2024-01-14", "2024-01-15", "nightly: no open accounts in the weeks before\n"
+        late = boarding(7, 2).replace("1704697200", "1704706200")
+
+        def closed(day, date, postings, pence):
+            return f"nightly: day {day} ({date}) closed: {postings} postings of {pence} pence in {into}/{date}.txt\n"
+
+        with staying(journals, ledger) as service:
+            talk(service.port, (boarding(7) + boarding(8) + "QUIT\n").encode())
+            nothing, two = closed(19737, next_day, 0, 0), closed(19736, sunday, 2, 350)
+            week = f"nightly: week through day 19736 ({sunday}): "
+            for more, wanted in (
+                (["--open=2"], f"{nothing}{week}2 open accounts\n"),
+                (["--open=2", "--week-before"], f"{two}{nothing}{none}"),
+            ):
+                came = ran([NIGHTLY, "19737", "--into", into, *more], CONTROL=str(service.control))
+                self.check(" ".join(more), came, answers(wanted.encode()))
+            talk(service.port, f"{late}QUIT\n".encode())
+            came = ran([NIGHTLY, "19737", "--into", into, "--open=2"], CONTROL=str(service.control))
+            self.check("a late tap", came, answers(f"{nothing}{week}1 open account\n".encode()))
+            self.check("how it ends", service.stopped(), service.wanted())
 
 
 class Lines(Theme):
