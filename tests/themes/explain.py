@@ -6,8 +6,8 @@ import random
 
 from oracle import loads, rules
 from support.journals import bad_line, new_folder
-from support.repository import BUS, LONDON, SAMPLE, TWO
-from support.running import MISSING, MONDAY, SEVEN, WEEK_DAYS, answers, fault, in_lines, run, taps_of, written
+from support.repository import BUS, COUNTED, LONDON, SAMPLE, TWO
+from support.running import MISSING, MONDAY, SEVEN, WEEK_DAYS, answers, bytes_of, fault, in_lines, run, taps_of, written
 from support.sessions import BUS_DAY, BUS_WEEK, FILLED, TRAIN_AND_BUS_WEEK, ZONE_DAY
 from support.theme import Theme
 
@@ -316,6 +316,43 @@ WEEKS = {
 }
 
 
+# Of places of examples/sample.toml, what stands at `name` in TOML.
+NAMES = {10: '"Abbey"', 12: '"Castle"', 50: '"Castle Road"'}
+NAMED_DAY = [
+    *taps_of([
+        *ride(SEVEN, SEVEN + 1_200), (SEVEN + 3_600, 50, "BUS"), (SEVEN + 5_400, 50, "BUS"),
+        *ride(SEVEN + 10_800, SEVEN + 12_000, places=(14, 12)), (SEVEN + 14_400, 12, "OUT"),
+    ]),
+    "FIX 3 1 7 FILL 1704715200 10 IN", "FIX 3 2 7 VOID 1 4",
+]
+NAMED_TEXT = [
+    ON_MONDAY,
+    "   3.40  07:00:00 rail Abbey (10) to Castle (12), zones 1 to 2, peak (morning)",
+    "   1.75  08:00:00 bus Castle Road (50), paid: the first boarding",
+    "   1.95  10:00:00 rail 14 to Castle (12), zones 2 to 3, off-peak",
+    "   8.60  11:00:00 rail out at Castle (12), maximum fare: no tap in comes right before",
+    "   8.60  12:00:00 rail in at Abbey (10), maximum fare: no tap out comes next",
+    *sums("7.10", "17.20", "24.30"),
+    correction("Fill 3 1 of rail in at Abbey (10) at 12:00:00: stands"),
+    correction("Void 3 2 of tap 1 4, bus Castle Road (50) at 08:30:00: stands"),
+]
+# What stands at `name` of station 10, and how it is then told.
+NO_NAMES = {
+    "65 characters": ('"' + "x" * 65 + '"', "10"), "a newline": ('"Ab\\nbey"', "10"), "an empty text": ('""', "10"),
+    "a number": ("10", "10"), "a delete": ('"Ab\\u007fbey"', "10"), "U+0085": ('"Ab\\u0085bey"', "10"),
+    "a table": ('{ en = "Abbey" }', "10"), "64 characters": ('"' + "\u00fc" * 64 + '"', "\u00fc" * 64 + " (10)"),
+    "a space": ('" "', "  (10)"), "quotes": ("""'"10" (12)'""", '"10" (12) (10)'),
+}
+
+
+def named(names):
+    """The text of examples/sample.toml with names of places."""
+    text = bytes_of(SAMPLE).decode()
+    for place, name in names.items():
+        text = text.replace(f"place = {place},", f"place = {place}, name = {name},")
+    return text.encode()
+
+
 class ByHand(Theme):
     """Texts that were worked out from docs/RULES.md."""
 
@@ -344,6 +381,21 @@ class ByHand(Theme):
             self.check(
                 f"{name}, the week", explain(journal, 7, MONDAY, "--week"), answers(in_lines([THROUGH_MONDAY, *week]))
             )
+
+    def test_names(self):
+        """Places by their names, and by their numbers alone where these are none. No file is refused for a name."""
+        fares = written(self.folder, "named.toml", named(NAMES))
+        self.check("names", explain(self.journal(NAMED_DAY), 7, MONDAY, fares=fares), answers(in_lines(NAMED_TEXT)))
+        self.check("a check of a file with names", run(["check", fares]), answers(COUNTED))
+        journal = self.journal(taps_of(ride(SEVEN, SEVEN + 1_200)))
+        for name, (text, told) in NO_NAMES.items():
+            fares = written(self.folder, "named.toml", named({10: text}))
+            wanted = [
+                ON_MONDAY, f"   3.40  07:00:00 rail {told} to 12, zones 1 to 2, peak (morning)",
+                *sums("3.40", "0.00", "3.40"),
+            ]
+            self.check(f"named by {name}", explain(journal, 7, MONDAY, fares=fares), answers(in_lines(wanted)))
+            self.check(f"named by {name}, a check", run(["check", fares]), answers(COUNTED))
 
     def test_other_accounts(self):
         """An account is told by what it has accepted alone. One that has accepted nothing, or is unknown, pays

@@ -295,6 +295,87 @@ class Stays(Theme):
             time.sleep(0.3)
             self.check_stopped("how it ends", service)
 
+    def test_open_accounts(self):
+        """OPEN says how many accounts owe something else for the week of a day, through it, than what was posted for
+        them, and posts nothing."""
+        journals, ledger = self.files()
+        sunday = MONDAY + 6
+        late, credit = f"TAP 1 2 7 {SEVEN + 9000} 50 BUS\n", CREDIT.replace(" 7 ", " 8 ")
+        tuesday, close = boarding(9).replace(str(SEVEN), str(SEVEN + 86400)), f"CLOSE {sunday}\n"
+
+        def is_open(count, day=sunday):
+            return f"OPEN {day}\n", f"OPEN {day} {count}\n"
+
+        def closed(*postings):
+            lines = "".join(f"PAY {account} {MONDAY} {sunday} {rest}\n" for account, rest in postings)
+            return close, f"{lines}DONE {sunday} {len(postings)}\n"
+
+        both = closed((7, "1 175 175 4=175"), (8, "1 175 175 4=175"))
+        again = closed((7, "2 350 175 4=175"), (8, "2 150 -25 4=-25"))
+        with staying(journals, ledger) as service:
+            with connected(service.port) as reader, connected(service.control) as staff:
+                self.check_talk("before a tap", staff, (is_open(0), is_open(0, 4), is_open(0, 50_000)))
+                self.check_talk(
+                    "a reader", reader,
+                    ((boarding(7), BOARDED), (boarding(8), BOARDED), (is_open(0)[0], "NO 50 BadLine\n")),
+                )
+                self.check_talk("before a close", staff, (is_open(2), is_open(2, MONDAY), is_open(2), both, is_open(0)))
+                self.check_talk("a late tap", reader, ((late, "OK 19730 350 350\n"),))
+                self.check_talk(
+                    "after a close", staff,
+                    (is_open(1), (credit, BOARDED), is_open(2), is_open(0, sunday + 1), again, is_open(0)),
+                )
+                self.check_talk("a later day", reader, ((tuesday, "OK 19731 175 175\n"),))
+                text = f"OPEN {MONDAY}\nOPEN {sunday}\nDUE 7 {MONDAY}\nOPEN {sunday + 7}\nQUIT\n"
+                wanted = f"OPEN {MONDAY} 0\nOPEN {sunday} 1\nDUE 7 {MONDAY} {MONDAY} 2 350 4=350\n"
+                wanted += f"OPEN {sunday + 7} 0\nBYE\n"
+                came = talk(service.control, text.encode())
+                self.check("several weeks", answers(came), answers(wanted.encode()))
+                for line in (
+                    "OPEN", "OPEN ", "OPEN 0", "OPEN 3", "OPEN 50001", "OPEN 019736", "OPEN +19736", "OPEN -1",
+                    f"OPEN  {sunday}", f"OPEN {sunday} ", f" OPEN {sunday}", f"OPEN {sunday} 1", f"OPEN 7 {sunday}",
+                    f"OPEN {sunday}\r", f"open {sunday}", f"OPENS {sunday}", "OPEN 4294967300",
+                ):
+                    self.check_talk("no day", staff, ((f"{line}\n", "NO 50 BadLine\n"),))
+                staff.sendall(b"STATS\n")
+                # Four taps, the credit, two closes, DUE, QUIT, the reader's OPEN, and 17 that name no day.
+                self.check_is("whether STATS counts no OPEN", b" lines=27 " in line_heard(staff))
+            self.check_stopped("how it ends", service)
+        # A session that is closed as often has the same ledger.
+        other, journal = os.path.join(self.folder, "other.db"), os.path.join(self.folder, "journal")
+        lines = boarding(7), boarding(8), close, late, credit, close, "QUIT\n"
+        run([*RUN, *with_both(journal, other)], "".join(lines).encode())
+        self.check("what its ledger has", rows_of_ledger(ledger), rows_of_ledger(other))
+
+    def test_loads(self):
+        """STATS has the accounts that have accepted something, also those that journals give back, and how many
+        commands wait for each shard."""
+        journals, ledger = self.files()
+        with staying(journals, ledger, shards=3) as service, connected(service.control) as staff:
+            self.check_loads("before a line", staff, "accounts=0 waiting_0=0 waiting_1=0 waiting_2=0")
+            self.check_talk(
+                "two accounts", staff,
+                (
+                    (boarding(7), BOARDED), (boarding(8), BOARDED), (boarding(7), AGAIN), (CREDIT, BOARDED),
+                    ("DUE 12 19730\n", "DUE 12 19730 19730 0 0\n"), ("SHOW 13 19730\n", "SHOW 13 19730 0 0\n"),
+                ),
+            )
+            self.check_loads("what they come to", staff, "accounts=2 waiting_0=0 waiting_1=0 waiting_2=0")
+            opens = "FIX 3 2 11 CREDIT 19730 25\n"
+            self.check_talk("two more", staff, ((opens, "OK 19730 0 0\n"), (boarding(10), BOARDED)))
+            self.check_loads("what all come to", staff, "accounts=4 waiting_0=0 waiting_1=0 waiting_2=0")
+            self.check_stopped("how it ends", service)
+        with staying(journals, ledger) as service, connected(service.control) as staff:
+            self.check_loads("by the next", staff, "accounts=4 waiting_0=0 waiting_1=0")
+            self.check_stopped("how that ends", service)
+
+    def check_loads(self, name, staff, wanted):
+        """What STATS has of accounts, and of what waits."""
+        staff.sendall(b"STATS\n")
+        words = line_heard(staff).decode().split()
+        came = " ".join(word for word in words if word.startswith(("accounts=", "waiting_")))
+        self.check(name, answers(came.encode()), answers(wanted.encode()))
+
     def test_one_that_does_not_read(self):
         """A peer that sends and does not read is not read on, keeps nobody waiting, and loses nothing."""
         journals, ledger = self.files()

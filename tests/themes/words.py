@@ -236,7 +236,7 @@ Options:
                           20 to 23, 50 or 51 are added, so that they can be sent again
       --greeting <TEXT>   For a service that stays: the line with which each connection has to
                           begin. 1 to 128 printable ASCII characters, no space at either end; not
-                          STOP, STATS or BACKUP PATH
+                          STOP, STATS, BACKUP PATH or OPEN DAY
       --journal <FOLDER>  A folder of the lines that were accepted, a file for each shard. They are
                           taken first, and each line that is accepted is added before its reply. The
                           files are made if they are missing, the folder is not
@@ -602,10 +602,11 @@ FULL_STAY = ["--shards=16", "--lanes=14", "--port=65535"]
 # no line that staff send.
 NO_GREETINGS = (
     "", " ", " a", "a ", "a\tb", "a\n", "a\r", "\x1f", "\x7f", "\u00e9", "x" * 129, "STOP", "STATS", "BACKUP ",
-    "BACKUP /a", "BACKUP a",
+    "BACKUP /a", "BACKUP a", "OPEN ", "OPEN 4",
 )
 GREETINGS = (
     "x", "x" * 128, "a  b", "!", "~", "=", "-", "-a", "--help", "stop", "STOP!", "STATS 1", "BACKUP", "backup /a",
+    "OPEN", "open 4",
 )
 REFUSED_FILES = (
     [*TO_RUN, "--sync"], [*TO_RUN, "--journal"], [*TO_RUN, "--journal", "--sync"], [*TO_RUN, "--ledger"],
