@@ -1,15 +1,15 @@
--- The name of a place among those that are kept.
+-- The name of a number among those that are kept.
 use Rattle.std.proofs.Common.{◌≡◌, ℕ, ◌==◌, Bool, true, false, cond, List, [], ◌∷◌, map, find, option_map, Option, Some, None, Bor, string_bytes, refl, ap, ◌∙◌}
 use Rattle.pay_names.specs.Names.{name_at}
-use Rattle.pay_names.specs.declared.named.NamedPlace.{NamedPlace}
+use Rattle.pay_names.specs.declared.named.NamedNumber.{NamedNumber}
 
-abbrev pub named : NamedPlace → ℕ × List ℕ
+abbrev pub named : NamedNumber → ℕ × List ℕ
 named place = (place.number, string_bytes place.name)
 
-abbrev pub name : NamedPlace → List ℕ
+abbrev pub name : NamedNumber → List ℕ
 name place = string_bytes place.name
 
-by_place : (n : ℕ) (places : List NamedPlace) → option_map name (find (λ place. place.number == n) places) ≡ name_at n (map named places)
+by_place : (n : ℕ) (places : List NamedNumber) → option_map name (find (λ place. place.number == n) places) ≡ name_at n (map named places)
 by_place n [] = refl
 by_place n (place ∷ places) = by (by_place n places) (place.number == n)
   where
@@ -18,8 +18,8 @@ by_place n (place ∷ places) = by (by_place n places) (place.number == n)
     by others true = refl
     by others false = others
 
--- the name of the first place of a number, where one is kept
-pub found : (n : ℕ) (places : List NamedPlace) (place : Option (Bor NamedPlace)) → option_map (λ place. place.now) place ≡ find (λ place. place.number == n) places
+-- the name of the first of a number, where one is kept
+pub found : (n : ℕ) (places : List NamedNumber) (place : Option (Bor NamedNumber)) → option_map (λ place. place.now) place ≡ find (λ place. place.number == n) places
     → option_map (λ place. name place.now) place ≡ name_at n (map named places)
 found n places None is = ap (option_map name) is ∙ by_place n places
 found n places (Some place) is = ap (option_map name) is ∙ by_place n places

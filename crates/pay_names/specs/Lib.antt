@@ -1,3 +1,4 @@
+pub mod IsCalled
 pub mod Names
 pub mod Words
 pub mod Rows

@@ -5,7 +5,8 @@ use Rattle.toml.specs.Data.{Data, string, integer, array, table, item, Members, 
 use Rattle.toml.specs.Parse.{parse_document}
 use Rattle.toml.proofs.OnLiterals.{toml_on_literals}
 use Rattle.pay_fare_file.specs.Rows.{number, one}
-use Rattle.pay_names.specs.Names.{Named, if_name, name_at, named_by, named_in, named_in_text}
+use Rattle.pay_names.specs.Names.{Named, called_in, called_in_text, currency_in, if_name, name_at, named_by, operators_in, places_in}
+use Rattle.pay_fare_file.specs.declared.key.Key.TheVariants as key
 
 -- ---- what is a name
 
@@ -43,17 +44,17 @@ two_bytes = refl
 abbrev ten : Data → Members
 ten name = member (codes "name") name (number (codes "operator") 1 (number (codes "place") 10 no_members))
 
-abbey : named_by (Some (ten (string (codes "Abbey")))) ≡ (10, codes "Abbey") ∷ []
+abbey : named_by key.Place 65_535 (Some (ten (string (codes "Abbey")))) ≡ (10, codes "Abbey") ∷ []
 unfolding chars
 abbey = refl
 
-of_a_number : named_by (Some (ten (integer (pos 10)))) ≡ []
+of_a_number : named_by key.Place 65_535 (Some (ten (integer (pos 10)))) ≡ []
 of_a_number = refl
 
-without_a_name : named_by (Some (number (codes "operator") 1 (number (codes "place") 10 no_members))) ≡ []
+without_a_name : named_by key.Place 65_535 (Some (number (codes "operator") 1 (number (codes "place") 10 no_members))) ≡ []
 without_a_name = refl
 
-without_a_place : named_by (Some (member (codes "name") (string (codes "Abbey")) no_members)) ≡ []
+without_a_place : named_by key.Place 65_535 (Some (member (codes "name") (string (codes "Abbey")) no_members)) ≡ []
 unfolding chars
 without_a_place = refl
 
@@ -88,13 +89,39 @@ from_text : parse_document text ≡ Some file
 unfolding toml_on_literals
 from_text = refl
 
-from_file : named_in file ≡ (10, codes "Abbey") ∷ (50, codes "Castle Road") ∷ []
+from_file : places_in file ≡ (10, codes "Abbey") ∷ (50, codes "Castle Road") ∷ []
 unfolding chars
 from_file = refl
 
-no_toml : named_in_text (codes "name") ≡ []
+no_toml : called_in_text (codes "name") ≡ record { places = []; operators = []; currency = codes "GBP" }
 unfolding toml_on_literals
 no_toml = refl
 
-nothing : named_in no_members ≡ []
+nothing : called_in no_members ≡ record { places = []; operators = []; currency = codes "GBP" }
 nothing = refl
+
+-- ---- operators, of which the second has no number that an operator may have
+
+abbrev operator : List ℕ → ℕ → Data
+operator name number_of = table (member (codes "name") (string name) (number (codes "operator") number_of no_members))
+
+two_operators : operators_in (member (codes "operators") (array (item (operator (codes "Metro") 16) (one (operator (codes "Ferry") 17)))) no_members) ≡ (16, codes "Metro") ∷ []
+unfolding chars
+two_operators = refl
+
+-- ---- a currency
+
+euro : currency_in (member (codes "currency") (string (codes "EUR")) no_members) ≡ codes "EUR"
+euro = refl
+
+in_small_letters : currency_in (member (codes "currency") (string (codes "eur")) no_members) ≡ codes "GBP"
+in_small_letters = refl
+
+of_four_letters : currency_in (member (codes "currency") (string (codes "EURO")) no_members) ≡ codes "GBP"
+of_four_letters = refl
+
+of_two_letters : currency_in (member (codes "currency") (string (codes "EU")) no_members) ≡ codes "GBP"
+of_two_letters = refl
+
+currency_of_a_number : currency_in (member (codes "currency") (integer (pos 978)) no_members) ≡ codes "GBP"
+currency_of_a_number = refl

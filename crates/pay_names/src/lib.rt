@@ -1,8 +1,8 @@
-//! The names that a fare file gives its stations and its routes. Prices never see them.
+//! The names that a fare file gives its stations, its routes and its operators, and its currency. Prices never see them.
 #![tactic(auto)]
 
 mod named;
 mod reading;
 
 pub use named::Names;
-pub use reading::{MOST_NAME, names_of};
+pub use reading::{Called, MOST_NAME, called_in};

@@ -1,20 +1,20 @@
-//! Places with their names.
+//! Numbers of places or of operators, with their names.
 ghost use Rattle.std.specs.Prelude.{◌≡◌, ◌==◌, option_map, find};
 
 use std::alloc::{AllocError, Global};
 use std::marker::Model;
 
-/// A place with its name.
+/// A number with its name.
 #[derive(Drop)]
-struct NamedPlace {
+struct NamedNumber {
     number: u16,
     name: String,
 }
 
-/// The names of places. In a contract they are a list of numbers, each with its name.
+/// The names of places, or of operators. In a contract they are a list of numbers, each with its name.
 #[derive(Drop)]
 pub struct Names {
-    places: Vec<NamedPlace>,
+    named: Vec<NamedNumber>,
 }
 
 impl Model for Names {
@@ -25,46 +25,46 @@ impl Model for Names {
 
     ghost coded = { coded_list (coded× coded_ℕ (coded_list coded_ℕ)) };
 
-    ghost view = { λ names. map (λ place. (place.number, string_bytes place.name)) names.places.items };
+    ghost view = { λ names. map (λ one. (one.number, string_bytes one.name)) names.named.items };
 }
 
 impl Names {
     ghost use Rattle.std.specs.Prelude.{[], ◌∷◌, ◌++◌, OnOk, option_copied};
     ghost use Rattle.pay_names.specs.Names.{name_at};
 
-    /// No place has a name.
+    /// No number has a name.
     pub fn none(alloc: Global) -> Names
         ensures { result ≡ [] }
     {
         Names {
-            places: Vec::new(alloc),
+            named: Vec::new(alloc),
         }
     }
 
-    /// Adds the name of a place after all others.
+    /// Adds the name of a number after all others.
     pub fn add(&mut self, number: u16, name: &str) -> Result<(), AllocError>
         ensures { OnOk result (self.new ≡ self.old ++ (number, name.now) ∷ []) }
     {
-        let alloc = *self.places.allocator();
+        let alloc = *self.named.allocator();
         let name = String::from_str(alloc, name)?;
-        self.places.push(NamedPlace { number, name })?;
+        self.named.push(NamedNumber { number, name })?;
         Ok(())
     }
 
-    /// The name of a place, if it has one.
-    pub fn of(&self, place: u16) -> Option<&str>
-        ensures { option_copied result ≡ name_at place self.now }
+    /// The name of a number, if it has one.
+    pub fn of(&self, number: u16) -> Option<&str>
+        ensures { option_copied result ≡ name_at number self.now }
     {
-        match place_at(&self.places, place) {
-            Some(named) => Some(named.name.as_str()),
+        match first_of(&self.named, number) {
+            Some(one) => Some(one.name.as_str()),
             None => None,
         }
     }
 }
 
-/// The first place of a number.
-fn place_at(places: &[NamedPlace], number: u16) -> Option<&NamedPlace>
-    ensures { option_map (λ place. place.now) result ≡ find (λ place. place.number == number) places.now }
+/// The first of a number.
+fn first_of(named: &[NamedNumber], number: u16) -> Option<&NamedNumber>
+    ensures { option_map (λ one. one.now) result ≡ find (λ one. one.number == number) named.now }
 {
-    places.iter().find(|place| place.number == number)
+    named.iter().find(|one| one.number == number)
 }

@@ -4,7 +4,7 @@ use Rattle.toml.specs.Data.{Items, no_items, item, Members, no_members, member, 
 use Rattle.pay_fare_file.specs.declared.key.Key.TheVariants as key
 use Rattle.pay_fare_file.specs.declared.spot.Spot.TheVariants.{AtKey, AtItem}
 use Rattle.pay_fare_file.specs.Rows.{number, numbers, one, rules, fare, cap}
-use Rattle.pay_warnings.specs.Warnings.{not_read, peak_below_off, fare_of_zero, week_below_day, cap_of_zero, no_bands, no_holiday_after, no_holidays, whole, at_spot, unread, table_said, keys_in, holidays_said, last_day, file_said}
+use Rattle.pay_warnings.specs.Warnings.{not_read, peak_below_off, fare_of_zero, week_below_day, cap_of_zero, no_bands, no_holiday_after, no_holidays, whole, at_spot, unread, table_said, file_keys, keys_in, holidays_said, last_day, file_said}
 
 -- ---- a table
 
@@ -23,6 +23,13 @@ name_of_a_route = refl
 
 name_of_a_band : unread (at_spot None (AtItem key.Band 1)) (keys_in key.Band) (member (codes "name") (integer (pos 1)) no_members) ≡ not_read (at_spot None (AtItem key.Band 1)) (codes "name") ∷ []
 name_of_a_band = refl
+
+-- a currency is read of a file, and not of an edition
+currency_of_a_file : unread (whole None) file_keys (member (codes "currency") (integer (pos 1)) (member (codes "operators") (integer (pos 1)) no_members)) ≡ []
+currency_of_a_file = refl
+
+currency_of_an_edition : unread (whole (Some 19_731)) (keys_in key.Edition) (member (codes "currency") (integer (pos 1)) no_members) ≡ not_read (whole (Some 19_731)) (codes "currency") ∷ []
+currency_of_an_edition = refl
 
 cheap_peak : table_said (at_spot None (AtItem key.Single 3)) key.Single (number (codes "from") 1 (number (codes "off") 210 (number (codes "peak") 200 (number (codes "to") 2 no_members)))) ≡ peak_below_off (at_spot None (AtItem key.Single 3)) 200 210 ∷ []
 cheap_peak = refl

@@ -89,9 +89,17 @@ may_have_name _ = false
 abbrev pub is_name : TableAt → List ℕ → Bool
 is_name at name = may_have_name at.spot && pointwise nat_eq name (codes "name")
 
+-- whether it is the file itself, of which operators and a currency are read beside these
+abbrev pub is_own : Option ℕ → Option Spot → Bool
+is_own None None = true
+is_own _ _ = false
+
+abbrev pub is_label_of_file : TableAt → List ℕ → Bool
+is_label_of_file at name = is_own at.edition at.spot && (pointwise nat_eq name (codes "operators") || pointwise nat_eq name (codes "currency"))
+
 -- each key of a table that is not among those that are read
 abbrev pub unread_key : TableAt → List Key → List ℕ → List Said
-unread_key at known name = if is_among known name || is_name at name then [] else not_read at name ∷ []
+unread_key at known name = if is_among known name || is_name at name || is_label_of_file at name then [] else not_read at name ∷ []
 
 abbrev pub unread : TableAt → List Key → Members → List Said
 unread at known no_members = []

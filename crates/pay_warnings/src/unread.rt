@@ -1,7 +1,7 @@
 //! The keys of a table that nothing reads.
 ghost use Rattle.std.specs.Prelude.{◌≡◌, IfOk, [], ◌∷◌, string_bytes};
 ghost use Rattle.toml.specs.View.{table_view};
-ghost use Rattle.pay_warnings.specs.Warnings.{Adds, is_name, may_have_name, says_of, unread, unread_key};
+ghost use Rattle.pay_warnings.specs.Warnings.{Adds, is_label_of_file, is_name, is_own, may_have_name, says_of, unread, unread_key};
 
 use crate::read_keys::is_among;
 use crate::warning::{Concern, TableAt, Warning};
@@ -40,7 +40,8 @@ fn add_key(
 ) -> Result<(), AllocError>
     ensures { IfOk result (λ _. Adds (unread_key at known.now (string_bytes name.now)) warnings.old warnings.new) }
 {
-    if is_among(known, name.as_str()) || is_name(at, name.as_str()) {
+    let it = name.as_str();
+    if is_among(known, it) || is_name(at, it) || is_label_of_file(at, it) {
         return Ok(());
     }
     let name = name.clone()?;
@@ -61,4 +62,17 @@ fn may_have_name(spot: Option<Spot>) -> bool
         Some(Spot::AtItem(Key::Station, _)) | Some(Spot::AtItem(Key::Route, _)) => true,
         _ => false,
     }
+}
+
+/// Whether it is what a file calls its operators, or its currency, which `explain` reads.
+fn is_label_of_file(at: TableAt, name: &str) -> bool
+    ensures { result ≡ is_label_of_file at name.now }
+{
+    is_own(at) && (name == "operators" || name == "currency")
+}
+
+fn is_own(at: TableAt) -> bool
+    ensures { result ≡ is_own at.edition at.spot }
+{
+    at.edition.is_none() && at.spot.is_none()
 }

@@ -5,4 +5,4 @@ use Rattle.pay_names.proofs.reading.add_names.Given as goal
 
 -- the names so far, and then those of what is left, are all
 abbrev pub invariant-loop-item : goal.invariant-loop-item
-invariant-loop-item l = l.names ++ named_among (items_view (drop l.item-index l.items)) ≡ l.fn.names ++ named_among (items_view l.items)
+invariant-loop-item l = l.names ++ named_among l.key l.most (items_view (drop l.item-index l.items)) ≡ l.fn.names ++ named_among l.key l.most (items_view l.items)

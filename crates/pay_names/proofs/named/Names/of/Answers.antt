@@ -5,10 +5,10 @@ use Rattle.pay_names.proofs.named.Names.of.Goals as goal
 
 pub returns-in-Some : goal.returns-in-Some
 returns-in-Some c =
-    ap Some c.as_str.ensures.value ∙ ap (option_map (λ place. name place.now)) (sym c.in-Some.is) ∙ found c.args.place c.deref.result.now c.place_at.result c.place_at.ensures
-    ∙ ap (λ places. name_at c.args.place (map named places)) c.deref.ensures.value ∙ ap (name_at c.args.place) c.self.view_is
+    ap Some c.as_str.ensures.value ∙ ap (option_map (λ place. name place.now)) (sym c.in-Some.is) ∙ found c.args.number c.deref.result.now c.first_of.result c.first_of.ensures
+    ∙ ap (λ places. name_at c.args.number (map named places)) c.deref.ensures.value ∙ ap (name_at c.args.number) c.self.view_is
 
 pub returns-in-None : goal.returns-in-None
 returns-in-None c =
-    ap (option_map (λ place. name place.now)) (sym c.in-None.is) ∙ found c.args.place c.deref.result.now c.place_at.result c.place_at.ensures
-    ∙ ap (λ places. name_at c.args.place (map named places)) c.deref.ensures.value ∙ ap (name_at c.args.place) c.self.view_is
+    ap (option_map (λ place. name place.now)) (sym c.in-None.is) ∙ found c.args.number c.deref.result.now c.first_of.result c.first_of.ensures
+    ∙ ap (λ places. name_at c.args.number (map named places)) c.deref.ensures.value ∙ ap (name_at c.args.number) c.self.view_is

@@ -1,0 +1,4 @@
+pub mod DatesOf
+mod Numerals
+pub mod OnLiterals
+pub mod ServiceDays

@@ -1,0 +1,16 @@
+use Rattle.std.proofs.Common.{◌≡◌, ◌∙◌, ap, sym, Some, None}
+use Rattle.std.specs.Option.{option_and_then}
+use Rattle.std.specs.Result.{result_ok}
+use Rattle.pay_dates.specs.Reading.{service_day}
+use Rattle.pay_dates.proofs.Numerals.{numbered}
+use Rattle.pay_dates.proofs.reading.numbered_day.Goals as goal
+
+pub returns-in_err-ok : goal.returns-in_err-ok
+returns-in_err-ok c =
+    let none : result_ok c.parse.result ≡ None = sym c.ok.ensures.value ∙ c.in_err-ok.was in
+    c.from_residual.ensures ∙ (sym (ap (option_and_then service_day) none) ∙ numbered c.args.text.now c.parse.result c.parse.ensures.value.0)
+
+pub returns : goal.returns
+returns c =
+    let some : result_ok c.parse.result ≡ Some c.in_ok-ok.field-0 = sym c.ok.ensures.value ∙ c.in_ok-ok.was in
+    c.service_day.ensures ∙ (sym (ap (option_and_then service_day) some) ∙ numbered c.args.text.now c.parse.result c.parse.ensures.value.0)

@@ -1,0 +1,4 @@
+pub mod Calendar
+pub mod Dates
+pub mod Reading
+pub mod Words

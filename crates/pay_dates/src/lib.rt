@@ -1,0 +1,8 @@
+//! Service days and their dates on the calendar.
+#![tactic(auto)]
+
+mod dated;
+mod reading;
+
+pub use dated::{DatedDay, DatedWeek};
+pub use reading::read_day;
