@@ -1,4 +1,5 @@
 pub mod Cells
 pub mod Counts
 mod DayRows
+pub mod Priced
 pub mod Weeks

@@ -1,9 +1,11 @@
 -- The days of a week, with their journeys and with the sums of these.
-use Rattle.std.proofs.Common.{◌≡◌, ℕ, ◌+◌, ◌-◌, ◌≤◌, List, [], ◌∷◌, ◌++◌, length, map, refl, ap, ◌∙◌, append_assoc, arith}
+use Rattle.std.proofs.Common.{◌≡◌, ℕ, ◌+◌, ◌-◌, ◌<◌, ◌≤◌, All, get_or, List, [], ◌∷◌, ◌++◌, length, map, refl, ap, ◌∙◌, append_assoc, arith}
 use Rattle.std.specs.List.{flat_map, zip}
-use Rattle.std.proofs.lemmas.List.FromFn.{length-range_with_len}
-use Rattle.pay_day.specs.Words.{monday}
-use Rattle.pay_day.specs.declared.limits.TheConstants.{DAYS_PER_WEEK}
+use Rattle.std.proofs.lemmas.List.FromFn.{length-range_with_len, get_or-range_with_len}
+use Rattle.std.proofs.lemmas.List.Elements.{All-from_get_or}
+use Rattle.std.specs.List.{range_with_len}
+use Rattle.pay_day.specs.Words.{IsDay, monday}
+use Rattle.pay_day.specs.declared.limits.TheConstants.{DAYS_PER_WEEK, LAST_DAY}
 use Rattle.pay_tables.specs.Words.{FareEditions, on}
 use Rattle.pay_rules.specs.declared.tap.Touch.{Touch}
 use Rattle.pay_rules.specs.declared.journey.Journey.{Journey}
@@ -22,6 +24,17 @@ use Rattle.pay_explain.specs.Week.{day_line_text, day_line, day_line_of, reason_
 pub few_days : (day : ℕ) → length (days_through day) ≤ DAYS_PER_WEEK
 few_days day = omega (arith, length-range_with_len (monday day) (day + 1 - monday day))
 
+-- and each is a day
+in_range : (from n : ℕ) → IsDay from → from + n ≤ LAST_DAY + 1 → (i : ℕ) → i < length (range_with_len from n) → IsDay (get_or (range_with_len from n) i 0)
+in_range from n is few i within =
+    let inside : i < n = omega (arith, within, length-range_with_len from n) in
+    rw (get_or-range_with_len from n i 0 inside) (omega (arith, is), omega (arith, few))
+
+pub all_days : (through : ℕ) → IsDay through → All IsDay (days_through through)
+all_days through is =
+    let from : IsDay (monday through) = (omega (arith, is), omega (arith, is)) in
+    All-from_get_or IsDay (days_through through) 0 (in_range (monday through) (through + 1 - monday through) from (omega (arith, is, from)))
+
 -- two additions to a text, one after the other
 pub then : (before now after first second : List ℕ) → after ≡ now ++ second → now ≡ before ++ first → after ≡ before ++ (first ++ second)
 then before now after first second next so_far = next ∙ ap (λ (text : List ℕ). text ++ second) so_far ∙ append_assoc before first second
@@ -34,7 +47,7 @@ SumsGivePrices editions = (day : ℕ) (list : List Journey) → capped_price_of 
 abbrev pub with_sums : FareEditions → DayJourneys → ℕ × CellSums
 with_sums editions one = (one.0, cells_of (on editions one.0) one.1)
 
-beside : (editions : FareEditions) (journeys : List Journey) (taps : List Touch) (days : List ℕ)
+pub beside : (editions : FareEditions) (journeys : List Journey) (taps : List Touch) (days : List ℕ)
     → zip days (map (cells_on editions journeys taps) days) ≡ map (with_sums editions) (map (with_journeys (journeys ++ bus_journeys editions taps)) days)
 beside editions journeys taps [] = refl
 beside editions journeys taps (day ∷ days) = ap (λ (rest : List (ℕ × CellSums)). (day, cells_on editions journeys taps day) ∷ rest) (beside editions journeys taps days)

@@ -8,3 +8,4 @@ pub mod Cells
 pub mod Corrections
 pub mod Explained
 pub mod Week
+pub mod Facts

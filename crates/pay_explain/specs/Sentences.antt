@@ -1,6 +1,7 @@
 -- Why a journey costs what it costs, in words.
 use Rattle.std.specs.Prelude.{◌≡◌, ℕ, ◌+◌, ◌*◌, ◌==◌, if◌then◌else◌, List, ◌++◌, codes, decimal, refl}
 use Rattle.std.specs.Fmt.{digits}
+use Rattle.pay_dates.specs.Words.{dated_text}
 use Rattle.pay_day.specs.Words.{Stamp}
 use Rattle.pay_tables.specs.declared.zones.Span.{Span}
 use Rattle.pay_why.specs.declared.boarding.BoardingReason.{BoardingReason}
@@ -16,7 +17,7 @@ use Rattle.pay_explain.specs.Amounts.{clock_text}
 -- when something was: of another service day than that of which is spoken, that day is told too
 abbrev pub when_text : ℕ → Stamp → List ℕ
 when_text day stamp =
-    if stamp.day == day then codes "at " ++ clock_text stamp.second else codes "on day " ++ (decimal stamp.day ++ (codes " at " ++ clock_text stamp.second))
+    if stamp.day == day then codes "at " ++ clock_text stamp.second else codes "on " ++ (dated_text stamp.day ++ (codes ", at " ++ clock_text stamp.second))
 
 abbrev pub zones_text : Span → List ℕ
 zones_text span =
@@ -67,10 +68,10 @@ unfolding digits
 within_the_hour = refl
 
 -- a boarding of the Monday by one of the Sunday before, which ends at 04:30
-of_the_day_before : boarding_text 19_730 3_600 (FreeAfter (record { utc = 1_704_687_600; day = 19_729; second = 15_600 }))
-    ≡ codes "free: within 3600 s of the boarding on day 19729 at 04:20:00"
+of_the_day_before : dated_text 19_729 ≡ codes "day 19729, 2024-01-07" → boarding_text 19_730 3_600 (FreeAfter (record { utc = 1_704_687_600; day = 19_729; second = 15_600 }))
+    ≡ codes "free: within 3600 s of the boarding on day 19729, 2024-01-07, at 04:20:00"
 unfolding digits
-of_the_day_before = refl
+of_the_day_before it = rw it refl
 
 in_the_morning : rail_text 19_730 (SingleFare (record { from = 1; to = 2 }) Morning) ≡ codes "zones 1 to 2, peak (morning)"
 unfolding digits

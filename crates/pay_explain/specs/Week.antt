@@ -2,6 +2,7 @@
 use Rattle.std.specs.Prelude.{◌≡◌, ℕ, List, [], ◌++◌, map, None, codes, decimal, refl}
 use Rattle.std.specs.Fmt.{digits}
 use Rattle.std.specs.List.{flat_map}
+use Rattle.pay_dates.specs.Words.{dated_text}
 use Rattle.pay_day.specs.Words.{monday}
 use Rattle.pay_tables.specs.Words.{FareEditions, on}
 use Rattle.pay_rules.specs.declared.fix.Fix.{Fix}
@@ -21,7 +22,7 @@ use Rattle.pay_explain.specs.Sums.{band_text}
 
 -- a day of the week: what it costs without its maximum fares
 abbrev pub day_line_text : ℕ → ℕ → List ℕ
-day_line_text day pence = head_text pence ++ (codes "day " ++ (decimal day ++ codes "\n"))
+day_line_text day pence = head_text pence ++ (dated_text day ++ codes "\n")
 
 -- the same by its journeys, and by the sums of their fares
 abbrev pub day_line : FareEditions → DayJourneys → List ℕ
@@ -39,7 +40,7 @@ week_sums_text reason =
 
 -- a Credit that counts
 abbrev pub credit_text_of : ℕ → ℕ → What → List ℕ
-credit_text_of staff seq (Credit credit) = head_text credit.pence ++ (codes "Credit " ++ (decimal staff ++ (codes " " ++ (decimal seq ++ (codes " of day " ++ (decimal credit.day ++ codes "\n"))))))
+credit_text_of staff seq (Credit credit) = head_text credit.pence ++ (codes "Credit " ++ (decimal staff ++ (codes " " ++ (decimal seq ++ (codes " of " ++ (dated_text credit.day ++ codes "\n"))))))
 credit_text_of staff seq _ = []
 
 abbrev pub credit_text : Fix → List ℕ
@@ -70,17 +71,18 @@ week_text_of editions days fixes through = flat_map (day_line_of editions) days 
 -- ---- worked rows
 
 -- an In at 860, less a Credit of a pound
-one_credit : credit_text (record { account = 7; staff = 3; seq = 2; what = Credit (record { day = 19_730; pence = 100 }) }) ≡ codes "   1.00  Credit 3 2 of day 19730\n"
+one_credit : dated_text 19_730 ≡ codes "day 19730, 2024-01-08"
+    → credit_text (record { account = 7; staff = 3; seq = 2; what = Credit (record { day = 19_730; pence = 100 }) }) ≡ codes "   1.00  Credit 3 2 of day 19730, 2024-01-08\n"
 unfolding digits
-one_credit = refl
+one_credit it = rw it refl
 
 less_a_pound : due_text (record { price = 860; credits = 100; due = 760 }) ≡ codes "   1.00  Credits, taken off\n   7.60  due\n"
 unfolding digits
 less_a_pound = refl
 
-one_day : day_line_text 19_730 525 ≡ codes "   5.25  day 19730\n"
+one_day : dated_text 19_730 ≡ codes "day 19730, 2024-01-08" → day_line_text 19_730 525 ≡ codes "   5.25  day 19730, 2024-01-08\n"
 unfolding digits
-one_day = refl
+one_day it = rw it refl
 
 without_a_week_cap : week_sums_text (record { uncapped = 1_050; band = None; maximum = 860; price = 1_910 })
     ≡ codes "  10.50  these days, without a week cap\n   8.60  maximum fares of these days\n  19.10  the week\n"

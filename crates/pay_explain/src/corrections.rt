@@ -195,7 +195,7 @@ fn is_about(named: Option<u32>, day: u32) -> bool
 }
 
 /// Adds the line of an accepted correction, if it is about a day.
-fn push_correction(
+pub fn push_correction(
     text: &mut String,
     names: &Names,
     taps: &TapSet,

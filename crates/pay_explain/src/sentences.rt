@@ -1,11 +1,12 @@
 //! Why a journey costs what it costs, as it is printed.
 use crate::amounts::Clock;
+use pay_dates::DatedDay;
 use pay_day::Moment;
 use pay_tables::Span;
 use pay_why::{BoardingReason, LoneReason, PeakReason, RailReason};
 use std::fmt;
 
-/// When something was, for a service day: `at 08:40:00`, or `on day 19729 at 23:10:00`.
+/// When something was, for a service day: `at 08:40:00`, or `on day 19729, 2024-01-07, at 23:10:00`.
 #[derive(Clone, Copy)]
 pub struct When {
     /// The service day of which is spoken.
@@ -26,7 +27,8 @@ impl fmt::Display for When {
         if day == self.day {
             write!(f, "at {clock}")
         } else {
-            write!(f, "on day {day} at {clock}")
+            let day = DatedDay::of(day);
+            write!(f, "on {day}, at {clock}")
         }
     }
 }

@@ -1,6 +1,7 @@
 //! What a week comes to through a day, and what is due of it, as lines.
 use crate::amounts::Head;
 use crate::sums::BandLines;
+use pay_dates::DatedDay;
 use pay_money::Pence;
 use pay_rules::{Fix, What};
 use pay_why::{CapReason, DueReason};
@@ -18,7 +19,7 @@ pub struct DueLines(pub DueReason);
 #[derive(Clone, Copy)]
 pub struct DayLine {
     /// The service day.
-    pub day: u32,
+    pub day: DatedDay,
     /// What it costs, but for its maximum fares.
     pub price: Pence,
 }
@@ -31,12 +32,12 @@ impl fmt::Display for DayLine {
     ghost use Rattle.std.specs.Prelude.{Some};
     ghost use Rattle.pay_explain.specs.Week.{day_line_text};
 
-    ghost output = { λ line. Some (day_line_text line.day line.price) };
+    ghost output = { λ line. Some (day_line_text line.day.day line.price) };
 
     fn fmt<W: fmt::Write>(&self, f: &mut fmt::Formatter<W>) -> fmt::Result {
         let price = Head(self.price);
         let day = self.day;
-        write!(f, "{price}day {day}\n")
+        write!(f, "{price}{day}\n")
     }
 }
 
@@ -84,8 +85,8 @@ impl fmt::Display for CreditLine {
         match self.0.what {
             What::Credit(credit) => {
                 let pence = Head(credit.pence());
-                let day = credit.day();
-                write!(f, "{pence}Credit {staff} {seq} of day {day}\n")
+                let day = DatedDay::of(credit.day());
+                write!(f, "{pence}Credit {staff} {seq} of {day}\n")
             }
             _ => Ok(()),
         }

@@ -1,5 +1,5 @@
 //! Why a week was charged through a day, as a text.
-ghost use Rattle.std.specs.Prelude.{◌≡◌, ◌≤◌, ◌+◌, ◌++◌, length, map, IfOk, OnOk};
+ghost use Rattle.std.specs.Prelude.{◌≡◌, ◌≤◌, ◌+◌, ◌++◌, length, map, All, IfOk, OnOk};
 ghost use Rattle.std.specs.List.{flat_map, zip};
 ghost use Rattle.std.specs.String.{string_bytes};
 ghost use Rattle.pay_day.specs.Words.{IsDay};
@@ -13,6 +13,7 @@ ghost use Rattle.pay_explain.specs.Week.{credit_text, day_line_of, due_lines, re
 use crate::journeys::cells_on;
 use crate::week::{CreditLine, DayLine, DueLines, WeekSums};
 use pay_caps::{Cells, capped_price};
+use pay_dates::DatedDay;
 use pay_day::monday;
 use pay_fix::FixSet;
 use pay_money::Pence;
@@ -22,7 +23,7 @@ use pay_why::{CapReason, counted_credits, due_reason, week_reason};
 use std::alloc::{AllocError, Global};
 
 /// The days of a day's week from Monday through that day.
-fn days_through(alloc: Global, through: u32) -> Result<Vec<u32>, AllocError>
+pub fn days_through(alloc: Global, through: u32) -> Result<Vec<u32>, AllocError>
     requires { IsDay through }
     ensures { IfOk result (λ days. days.items ≡ days_through through) }
 {
@@ -35,7 +36,7 @@ fn days_through(alloc: Global, through: u32) -> Result<Vec<u32>, AllocError>
 }
 
 /// The sums of the fares of days, each by all journeys by rail and all boardings of an account.
-fn sums_of(
+pub fn sums_of(
     alloc: Global,
     editions: &Editions,
     journeys: &[Journey],
@@ -59,10 +60,11 @@ fn push_day(
     day: u32,
     cells: &Cells,
 ) -> Result<(), AllocError>
+    requires { IsDay day }
     ensures { OnOk result (string_bytes text.new ≡ string_bytes text.old ++ day_line_of editions.now (day, cells.now)) }
 {
     let line = DayLine {
-        day,
+        day: DatedDay::of(day),
         price: capped_price(editions.on(day), cells).0,
     };
     write!(text, "{line}")?;
@@ -76,7 +78,8 @@ fn push_days(
     days: &[u32],
     sums: &[Cells],
 ) -> Result<(), AllocError>
-    requires { length days.now ≡ length sums.now }
+    requires beside { length days.now ≡ length sums.now }
+    requires are_days { All IsDay days.now }
     ensures { OnOk result (string_bytes text.new ≡ string_bytes text.old ++ flat_map (day_line_of editions.now) (zip days.now sums.now)) }
 {
     for place in 0..sums.len() {
@@ -142,6 +145,7 @@ fn text_of_sums(
 ) -> Result<String, AllocError>
     requires beside { length days.now ≡ length sums.now }
     requires few { length sums.now ≤ DAYS_PER_WEEK }
+    requires are_days { All IsDay days.now }
     requires is_day { IsDay through }
     ensures { IfOk result (λ text. string_bytes text ≡ week_text_of editions.now (zip days.now sums.now) fixes.now through) }
 {

@@ -1,9 +1,11 @@
-use Rattle.std.proofs.Common.{ℕ, length, map, sym, ap, ◌∙◌, arith}
+use Rattle.std.proofs.Common.{ℕ, length, map, All, sym, ap, ◌∙◌, arith}
 use Rattle.std.proofs.lemmas.List.{length-map}
 use Rattle.std.proofs.lemmas.Result.{IfOk-weaker}
 use Rattle.pay_caps.specs.Words.{CellSums}
+use Rattle.pay_day.specs.Words.{IsDay}
+use Rattle.pay_rules.specs.Prices.{days_through}
 use Rattle.pay_explain.specs.Cells.{cells_on}
-use Rattle.pay_explain.proofs.Weeks.{few_days, text_is}
+use Rattle.pay_explain.proofs.Weeks.{all_days, few_days, text_is}
 use Rattle.pay_explain.proofs.week_days.week_text.Goals as goal
 
 pub text_of_sums-requires-clause-beside : goal.text_of_sums-requires-clause-beside
@@ -30,6 +32,11 @@ text_of_sums-requires-clause-few c =
       ap length c.deref-3.ensures.value,
       ap length c.in_ok-sums.ensures,
     )
+
+pub text_of_sums-requires-clause-are_days : goal.text_of_sums-requires-clause-are_days
+text_of_sums-requires-clause-are_days c =
+    let all : All IsDay (days_through c.args.through) = all_days c.args.through c.requires.is_day in
+    rw (← (c.deref-2.ensures.value ∙ c.in_ok-days.ensures)) at all
 
 pub returns : goal.returns
 returns c =
