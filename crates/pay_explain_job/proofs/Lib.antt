@@ -1,2 +1,4 @@
+mod Counted
+mod Joins
 mod Told
 mod Values

@@ -1,8 +1,7 @@
 -- How the job explain ends, by the texts of its fare file, of its zone and of its journals, and by what is asked for.
-use Rattle.std.specs.Prelude.{◌≡◌, ◌⊎◌, ℕ, Bool, true, false, List, [], ◌++◌, Option, None}
+use Rattle.std.specs.Prelude.{◌≡◌, ◌⊎◌, ℕ, Bool, if◌then◌else◌, List, [], ◌++◌, Option, None}
 use Rattle.std.specs.Io.KnownBytes.{Appends}
-use Rattle.pay_day.specs.Words.{monday}
-use Rattle.pay_names.specs.Words.{Named, named_in_text}
+use Rattle.pay_names.specs.Words.{Named, called_in_text}
 use Rattle.pay_rules.specs.Accepted.{Accepted}
 use Rattle.pay_rules.specs.State.{accepted_of}
 use Rattle.pay_tables.specs.Words.{FareEditions}
@@ -15,8 +14,6 @@ use Rattle.pay_jobs.specs.declared.fault.Fault.{Fault}
 use Rattle.pay_jobs.specs.declared.fault.Fault.TheVariants.{Output}
 use Rattle.pay_explain_job.specs.Heads.{day_head, week_head}
 use Rattle.pay_explain_job.specs.Numbered.{numbered}
-use Rattle.pay_explain_job.specs.declared.dated.DatedDay.{DatedDay}
-use Rattle.pay_explain_job.specs.declared.dated.DatedWeek.{DatedWeek}
 
 -- the texts that the job is given
 pub record Given : Type 0 where
@@ -38,35 +35,27 @@ query account day week = record { account = account; day = day; week = week }
 
 -- ---- the text, by what an account has accepted
 
--- the day with its date, and why it was charged, where places have these names
-pub record IsDayText (names : Named) (editions : FareEditions) (accepted : Accepted) (account day : ℕ) (text : List ℕ) : Type 0 where
-  pub of : DatedDay
-  pub of_day : of.day ≡ day
-  pub says : text ≡ day_head account of ++ explained_day names editions accepted day
+-- the day with its date, and why it was charged, where places have these names and amounts are in this currency
+abbrev pub day_text : Named → List ℕ → FareEditions → Accepted → ℕ → ℕ → List ℕ
+day_text names currency editions accepted account day = day_head currency account day ++ explained_day names editions accepted day
 
 -- the days of the week with their dates, and why it was charged
-pub record IsWeekText (editions : FareEditions) (accepted : Accepted) (account day : ℕ) (text : List ℕ) : Type 0 where
-  pub of : DatedWeek
-  pub from_monday : of.from.day ≡ monday day
-  pub through_day : of.through.day ≡ day
-  pub says : text ≡ week_head account of ++ explained_week editions accepted day
+abbrev pub week_text : List ℕ → FareEditions → Accepted → ℕ → ℕ → List ℕ
+week_text currency editions accepted account through = week_head currency account through ++ explained_week editions accepted through
 
-abbrev pub IsTextBy : Bool → Named → FareEditions → Accepted → Query → List ℕ → Type 0
-IsTextBy true names editions accepted query = IsWeekText editions accepted query.account query.day
-IsTextBy false names editions accepted query = IsDayText names editions accepted query.account query.day
-
-abbrev pub IsText : Named → FareEditions → Accepted → Query → List ℕ → Type 0
-IsText names editions accepted query = IsTextBy query.week names editions accepted query
+abbrev pub text_of : Named → List ℕ → FareEditions → Accepted → Query → List ℕ
+text_of names currency editions accepted query =
+    if query.week then week_text currency editions accepted query.account query.day else day_text names currency editions accepted query.account query.day
 
 -- ---- how the job ends
 
 -- A fare file and a zone are read, each line of all journals, one after the other, is accepted or was before, and this is the text of what
--- the account has then accepted, with the names that the fare file gives to places.
+-- the account has then accepted, with the names that the fare file gives to places, in its currency.
 pub record IsExplained (given : Given) (query : Query) (text : List ℕ) : Type 0 where
   pub machine : Machine
   pub begins : Begins given.fares given.zone None machine
   pub accepted : AreAllPriced (outcome [] machine (all_requests given.journals)).replies
-  pub says : IsText (named_in_text given.fares) machine.editions (numbered (accepted_of (outcome [] machine (all_requests given.journals)).after.accounts query.account)) query text
+  pub says : text ≡ text_of (called_in_text given.fares).places (called_in_text given.fares).currency machine.editions (numbered (accepted_of (outcome [] machine (all_requests given.journals)).after.accounts query.account)) query
 
 -- The job ended by itself: the text was written, and nothing else.
 abbrev pub ExplainWritten : Given → Query → Option (List ℕ) → Option (List ℕ) → Type 0

@@ -1,23 +1,43 @@
 //! The job `explain`, by the texts of its fare file, its zone and its journals: all that the program does below the reading of files.
-ghost use Rattle.std.specs.Prelude.{◌≡◌, map as each, IfOk, IfErr, OnOk, OnErr};
+ghost use Rattle.std.specs.Prelude.{◌≡◌, ◌+◌, ◌++◌, length, map as each, IfOk, IfErr, OnOk, OnErr};
 ghost use Rattle.std.specs.Io.KnownBytes.{Appends};
 ghost use Rattle.std.specs.String.{string_bytes};
 ghost use Rattle.pay_day.specs.Words.{IsDay};
+ghost use Rattle.pay_ledger.specs.Words.{ChangesNothing};
+ghost use Rattle.pay_records.specs.Words.{LeavesAsBefore};
+ghost use Rattle.pay_names.specs.Words.{called_in_text};
+ghost use Rattle.pay_rules.specs.Accepted.{version};
 ghost use Rattle.pay_rules.specs.State.{accepted_of};
 ghost use Rattle.pay_shard.specs.Words.{state_now};
 ghost use Rattle.pay_wire.specs.Words.{AppendsFront, IsFlushed, HasFault};
 ghost use Rattle.pay_explain_job.specs.Numbered.{numbered};
-ghost use Rattle.pay_explain_job.specs.Explain.{IsText, IsExplained, IsNotExplained, ExplainWritten, ExplainRefused, given, query};
+ghost use Rattle.pay_explain_job.specs.Explain.{text_of, IsNotExplained, ExplainWritten, ExplainRefused, given, query};
+ghost use Rattle.pay_explain_job.specs.PostedLines.{posted_text};
+ghost use Rattle.pay_explain_job.specs.Postings.{IsExplainedAt, IsWhole, IsUntold, Writes, Stops, Keeps};
 
+use crate::posted::posted_text;
 use crate::sets::{fix_set, sets_of, tap_set};
 use crate::texts::text_of;
 use pay_book::Book;
+use pay_day::monday;
 use pay_jobs::{Fault, begin_service, replayed_texts};
-use pay_names::{Names, names_of};
+use pay_ledger::Ledger;
+use pay_names::{Called, Names, called_in};
+use pay_rules::{Posting, Sets};
 use pay_run::replayed_lines;
 use pay_shard::Shard;
 use pay_wire::{KnownWriter, send_line};
+use sqlite::Alter;
 use std::alloc::{AllocError, Global};
+
+/// Why an account was charged, as text; the version that it has by its journals: how many taps and corrections it has accepted; and the
+/// names of operators.
+#[derive(Drop)]
+struct Explanation {
+    text: String,
+    version: usize,
+    operators: Names,
+}
 
 /// Writes why a service day of an account was charged, counted from 1970-01-01, or its week through that day: by what the account has
 /// accepted of journals, which are given as texts and replayed one after the other. The fare file is read before the zone, and both
@@ -39,8 +59,58 @@ pub fn explain_texts<W: KnownWriter>(
     ensures flushed { OnOk result (IsFlushed W.MayAnswer writer.new) }
     ensures cause { IfErr result (λ fault. fault ≡ Fault.Output → HasFault W.MayAnswer writer.new) }
 {
-    let text = explained(alloc, fares, zone, texts, account, day, week)?;
+    let explanation = explained(alloc, fares, zone, texts, account, day, week)?;
+    write_text(writer, explanation.text.as_str().as_bytes())
+}
+
+/// Writes the same, and below it what a ledger has of the account and the week of that day, beside the version that the account has by
+/// its journals. The ledger is read first of all, and only read.
+pub fn explain_with_ledger<W: KnownWriter, S: Alter>(
+    alloc: Global,
+    fares: &str,
+    zone: &str,
+    texts: &[Vec<u8>],
+    account: u32,
+    day: u32,
+    week: bool,
+    ledger: &mut Ledger<S>,
+    writer: &mut W,
+) -> Result<(), Fault>
+    requires { IsDay day }
+    ensures ends { OnOk result (Writes (IsWhole S.Store ledger.old ledger.new (given fares.now zone.now (each (λ text. text.items) texts.now)) (query account day week)) (W.contents writer.old) (W.contents writer.new)) }
+    ensures stops { IfErr result (Stops (IsWhole S.Store ledger.old ledger.new (given fares.now zone.now (each (λ text. text.items) texts.now)) (query account day week)) (W.contents writer.old) (W.contents writer.new)) }
+    ensures fails { IfErr result (Keeps (IsUntold S.Store ledger.old ledger.new (given fares.now zone.now (each (λ text. text.items) texts.now)) (query account day week)) (W.contents writer.old) (W.contents writer.new)) }
+    ensures flushed { OnOk result (IsFlushed W.MayAnswer writer.new) }
+    ensures cause { IfErr result (λ fault. fault ≡ Fault.Output → HasFault W.MayAnswer writer.new) }
+    ensures unchanged { ChangesNothing S.Store ledger.old ledger.new }
+    ensures survives { LeavesAsBefore S.Store ledger.old ledger.new }
+{
+    let from = monday(day);
+    let postings = ledger.postings(account, from)?;
+    let explanation = explained(alloc, fares, zone, texts, account, day, week)?;
+    let text = with_posted(alloc, explanation, from, postings.as_slice())?;
     write_text(writer, text.as_str().as_bytes())
+}
+
+/// A text with that of what was posted below it. `week` is the Monday of the week.
+fn with_posted(
+    alloc: Global,
+    explanation: Explanation,
+    week: u32,
+    postings: &[Posting],
+) -> Result<String, AllocError>
+    requires { IsDay week }
+    ensures { IfOk result (λ text. string_bytes text ≡ string_bytes explanation.text ++ posted_text explanation.operators week explanation.version postings.now) }
+{
+    let Explanation {
+        text,
+        version,
+        operators,
+    } = explanation;
+    let below = posted_text(alloc, &operators, week, postings, version)?;
+    let mut text = text;
+    text.push_str(below.as_str())?;
+    Ok(text)
 }
 
 /// Writes a text of whole lines and flushes the writer. Where that fails, it has taken a front of the text.
@@ -57,7 +127,7 @@ fn write_text<W: KnownWriter>(writer: &mut W, text: &[u8]) -> Result<(), Fault>
     }
 }
 
-/// The text that is written.
+/// The text of the day or the week, and the account's version.
 fn explained(
     alloc: Global,
     fares: &str,
@@ -66,9 +136,10 @@ fn explained(
     account: u32,
     day: u32,
     week: bool,
-) -> Result<String, Fault>
+) -> Result<Explanation, Fault>
     requires { IsDay day }
-    ensures explained { IfOk result (λ text. IsExplained (given fares.now zone.now (each (λ text. text.items) texts.now)) (query account day week) (string_bytes text)) }
+    ensures explained { IfOk result (λ it. IsExplainedAt (given fares.now zone.now (each (λ text. text.items) texts.now)) (query account day week) it.version (string_bytes it.text)) }
+    ensures operators { IfOk result (λ it. it.operators ≡ (called_in_text fares.now).operators) }
     ensures fails { IfErr result (IsNotExplained (given fares.now zone.now (each (λ text. text.items) texts.now))) }
 {
     pay_run::laws::all_else_stays();
@@ -76,34 +147,49 @@ fn explained(
     let replayed = replayed_texts(alloc, read.editions, &read.zone, texts, 0)?;
     // What was replayed is what the shard has.
     replayed_lines(&replayed.0);
-    let names = names_of(alloc, fares)?;
-    let text = text_by(alloc, &names, replayed.0.shard(), account, day, week)?;
-    Ok(text)
+    let called = called_in(alloc, fares)?;
+    let explanation = text_by(alloc, called, replayed.0.shard(), account, day, week)?;
+    Ok(explanation)
 }
 
 /// The same by what a shard has.
 fn text_by(
     alloc: Global,
-    names: &Names,
+    called: Called,
     shard: &Shard<Book>,
     account: u32,
     day: u32,
     week: bool,
-) -> Result<String, AllocError>
+) -> Result<Explanation, AllocError>
     requires { IsDay day }
-    ensures { IfOk result (λ text. IsText names.now shard.now.editions (numbered (accepted_of (state_now shard.now) account)) (query account day week) (string_bytes text)) }
+    ensures text { IfOk result (λ it. string_bytes it.text ≡ text_of called.places (string_bytes called.currency) shard.now.editions (numbered (accepted_of (state_now shard.now) account)) (query account day week)) }
+    ensures operators { IfOk result (λ it. it.operators ≡ called.operators) }
+    ensures version { IfOk result (λ it. it.version ≡ version (accepted_of (state_now shard.now) account)) }
 {
     let sets = sets_of(alloc, shard, account)?;
     let taps = tap_set(alloc, sets.taps())?;
     let fixes = fix_set(alloc, sets.fixes())?;
-    text_of(
+    let text = text_of(
         alloc,
-        names,
+        &called.places,
+        called.currency.as_str(),
         shard.editions(),
         &taps,
         &fixes,
         account,
         day,
         week,
-    )
+    )?;
+    Ok(Explanation {
+        text,
+        version: version_of(&sets),
+        operators: called.operators,
+    })
+}
+
+/// How many taps and corrections there are.
+fn version_of(sets: &Sets) -> usize
+    ensures { result ≡ length sets.now.taps + length sets.now.fixes }
+{
+    sets.taps().len() + sets.fixes().len()
 }

@@ -1,12 +1,11 @@
 //! The job `explain` of the program, by the texts of its fare file, its zone and its journals: why a day of an account was charged, or its
-//! week.
+//! week, and what a ledger has of that week.
 #![tactic(auto)]
 
-mod dated;
 mod explain;
 mod heads;
+mod posted;
 mod sets;
 mod texts;
 
-pub use dated::{DatedDay, DatedWeek};
-pub use explain::explain_texts;
+pub use explain::{explain_texts, explain_with_ledger};

@@ -1,12 +1,10 @@
 //! The texts of a day and of a week, by what an account has accepted.
-ghost use Rattle.std.specs.Prelude.{IfOk};
+ghost use Rattle.std.specs.Prelude.{◌≡◌, IfOk};
 ghost use Rattle.std.specs.String.{string_bytes};
 ghost use Rattle.pay_day.specs.Words.{IsDay};
-ghost use Rattle.pay_explain_job.specs.Explain.{IsDayText, IsWeekText, IsText, query};
+ghost use Rattle.pay_explain_job.specs.Explain.{day_text, week_text, text_of, query};
 
-use crate::dated::{DatedDay, DatedWeek};
 use crate::heads::{with_day_head, with_week_head};
-use pay_day::monday;
 use pay_explain::{explained_day, explained_week};
 use pay_fix::FixSet;
 use pay_names::Names;
@@ -18,6 +16,7 @@ use std::alloc::{AllocError, Global};
 fn day_text(
     alloc: Global,
     names: &Names,
+    currency: &str,
     editions: &Editions,
     taps: &TapSet,
     fixes: &FixSet,
@@ -25,39 +24,34 @@ fn day_text(
     day: u32,
 ) -> Result<String, AllocError>
     requires { IsDay day }
-    ensures { IfOk result (λ text. IsDayText names.now editions.now (record { taps = taps.now; fixes = fixes.now }) account day (string_bytes text)) }
+    ensures { IfOk result (λ text. string_bytes text ≡ day_text names.now currency.now editions.now (record { taps = taps.now; fixes = fixes.now }) account day) }
 {
     let explained = explained_day(alloc, names, editions, taps, fixes, day)?;
-    with_day_head(alloc, account, DatedDay::of(day), explained.as_str())
+    with_day_head(alloc, currency, account, day, explained.as_str())
 }
 
 /// The same of the week of a service day through that day.
 fn week_text(
     alloc: Global,
+    currency: &str,
     editions: &Editions,
     taps: &TapSet,
     fixes: &FixSet,
     account: u32,
-    day: u32,
+    through: u32,
 ) -> Result<String, AllocError>
-    requires { IsDay day }
-    ensures { IfOk result (λ text. IsWeekText editions.now (record { taps = taps.now; fixes = fixes.now }) account day (string_bytes text)) }
+    requires { IsDay through }
+    ensures { IfOk result (λ text. string_bytes text ≡ week_text currency.now editions.now (record { taps = taps.now; fixes = fixes.now }) account through) }
 {
-    let explained = explained_week(alloc, editions, taps, fixes, day)?;
-    let from = DatedDay::of(monday(day));
-    let through = DatedDay::of(day);
-    with_week_head(
-        alloc,
-        account,
-        DatedWeek { from, through },
-        explained.as_str(),
-    )
+    let explained = explained_week(alloc, editions, taps, fixes, through)?;
+    with_week_head(alloc, currency, account, through, explained.as_str())
 }
 
-/// Either of these: of a day, places have these names. An `Err` is out of memory.
+/// Either of these, with amounts in this currency: of a day, places have these names. An `Err` is out of memory.
 pub fn text_of(
     alloc: Global,
     names: &Names,
+    currency: &str,
     editions: &Editions,
     taps: &TapSet,
     fixes: &FixSet,
@@ -66,11 +60,11 @@ pub fn text_of(
     week: bool,
 ) -> Result<String, AllocError>
     requires { IsDay day }
-    ensures { IfOk result (λ text. IsText names.now editions.now (record { taps = taps.now; fixes = fixes.now }) (query account day week) (string_bytes text)) }
+    ensures { IfOk result (λ text. string_bytes text ≡ text_of names.now currency.now editions.now (record { taps = taps.now; fixes = fixes.now }) (query account day week)) }
 {
     if week {
-        week_text(alloc, editions, taps, fixes, account, day)
+        week_text(alloc, currency, editions, taps, fixes, account, day)
     } else {
-        day_text(alloc, names, editions, taps, fixes, account, day)
+        day_text(alloc, names, currency, editions, taps, fixes, account, day)
     }
 }
