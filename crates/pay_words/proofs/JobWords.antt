@@ -1,9 +1,12 @@
 -- The words of which a job was made.
-use Rattle.std.proofs.Common.{◌≡◌, ◌∙◌, ℕ, Bool, codes, true, false, refl, sym, subst, ap, List, [], ◌∷◌, Option, Some, None, inl, inr, drop, slice_index, ◌≢◌}
+use Rattle.std.proofs.Common.{◌≡◌, ◌∙◌, ℕ, Bool, codes, true, false, refl, sym, subst, ap, List, [], ◌∷◌, Option, Some, None, inl, inr, drop, slice_index, true≢false, ◌≢◌}
 use Rattle.clap.specs.Walk.{Row, Text, idle}
 use Rattle.clap.specs.Kinds.{Kinds}
 use Rattle.clap.specs.ValueTests.{is_unsigned_in}
-use Rattle.std.specs.Prelude.{IfSome, ⊤}
+use Rattle.std.specs.Prelude.{IfSome, ⊤, is_some}
+use Rattle.pay_dates.specs.Words.{day_of_text}
+use Rattle.pay_dates.proofs.ServiceDays.{day_no_hyphen}
+use Rattle.pay_words.specs.OneWord.{is_account}
 use Rattle.std.proofs.lemmas.Bool.Decides.{eqb_tells}
 use Rattle.pay_words.specs.Asked.{AreAuditWords, AreCheckWords, AreExplainWords, AreRunWords, AreServeWords, AreStatementWords, Asked, HaveNoHyphens, Word, allowed, asked, many_by, many_given, word_kind, words_ask, option_asked, program_asked}
 use Rattle.pay_words.specs.Asked.{audit, audit_asked, audit_of, explain, explain_asked, explain_of, rebuild, rebuild_asked, rebuild_of}
@@ -15,12 +18,12 @@ use Rattle.pay_words.specs.Options.{AreParts, IsOption, Part, Said, Setting, Sta
 use Rattle.pay_words.specs.Options.{port_option, lanes_option, shards_option, sessions_option, close_option, control_option, ahead_option, refused_option, greeting_option, journal_option, sync_option, ledger_option, early_option}
 use Rattle.pay_words.specs.Options.{lint_option, against_option, after_option, week_option}
 use Rattle.pay_words.specs.Audit.{AreAuditParts, Audit, audit_grammar}
-use Rattle.pay_words.specs.Check.{AreCheckParts, CheckTexts, HasAfterInRange, check_grammar, check_of_texts, has_against}
-use Rattle.pay_words.specs.Explain.{AreExplainParts, ExplainTexts, HasAccountAndDayInRange, explain_grammar, explain_of_texts}
+use Rattle.pay_words.specs.Check.{AreCheckParts, CheckTexts, check_grammar, check_of_texts, may_check}
+use Rattle.pay_words.specs.Explain.{AreExplainParts, ExplainTexts, explain_grammar, explain_of_texts}
 use Rattle.pay_words.specs.Rebuild.{rebuild_grammar}
 use Rattle.pay_words.specs.Run.{AreRunParts, Run, first_given, flags, has_journal, is_given, listed, run_grammar}
 use Rattle.pay_words.specs.Serve.{AreInRange, ArePartsOf, ServeTexts, is_whole, numbers_of, serve_grammar}
-use Rattle.pay_words.specs.Statement.{AreStatementParts, HasNumbersInRange, StatementTexts, statement_grammar, statement_of_texts}
+use Rattle.pay_words.specs.Statement.{AreStatementParts, StatementTexts, statement_grammar, statement_of_texts}
 use Rattle.pay_words.proofs.OptionRules.{flag_given}
 use Rattle.pay_words.proofs.OptionsTaken.{AreTaken, Fits, Once, no_values, not_both, parts_taken}
 use Rattle.pay_words.proofs.PartsSaid.{Says, says}
@@ -29,7 +32,7 @@ use Rattle.pay_words.proofs.WordKinds.{Reads, reads}
 use Rattle.pay_words.proofs.WordLevels.{Level, rows_from}
 use Rattle.pay_words.proofs.WordSteps.{stand}
 use Rattle.pay_words.proofs.WordsAfterAudit.{audit_apart, audit_built, audit_rules, audit_shape}
-use Rattle.pay_words.proofs.WordsAfterCheck.{check_apart, check_built, check_rules, check_shape, under_day}
+use Rattle.pay_words.proofs.WordsAfterCheck.{check_apart, check_built, check_rules, check_shape}
 use Rattle.pay_words.proofs.WordsAfterExplain.{explain_apart, explain_built, explain_rules, explain_shape}
 use Rattle.pay_words.proofs.WordsAfterOptions.{Comes, Places, Under, ends}
 use Rattle.pay_words.proofs.WordsAfterRebuild.{rebuild_apart, rebuild_built, rebuild_rules}
@@ -152,7 +155,6 @@ after_check rest = go (all_said check_grammar rest) (Level check_shape [] (stand
         under_listed had against_option (values_of against_option parts) (under against_option),
         under_listed had after_option (values_of after_option parts) (under after_option),
       ),
-      under_day had (values_of after_option parts) (under after_option),
       refl,
     )
 
@@ -180,7 +182,7 @@ after_statement rest = go (all_said statement_grammar rest) (Level statement_sha
       parts,
       ap (λ (l : List Text). codes "statement" ∷ l) s.0,
       (s.1, is, under_listed had journal_option (values_of journal_option parts) (under journal_option)),
-      (h.2.2.1, h.2.2.2.1),
+      h.2.2.1,
       refl,
     )
 
@@ -197,7 +199,7 @@ after_explain rest = go (all_said explain_grammar rest) (Level explain_shape [] 
   where
     made : (parts : List Part) (had : List Row) → Says explain_grammar (codes "explain") explain_rules explain_built explain_apart (all_of parts) (without_dashes rest)
         → ((k : Setting) → Under had k (values_of k parts)) → (vs js : List Text) → plain_words parts ≡ vs → values_of journal_option parts ≡ js
-        → Places explain_grammar.places vs had → AreWordsOf (explain_of vs js (values_of week_option parts)) (codes "explain" ∷ rest)
+        → Places explain_grammar.places vs had → AreWordsOf (explain_of vs js (values_of ledger_option parts) (values_of week_option parts)) (codes "explain" ∷ rest)
     made parts had s under [] js is j h = tt
     made parts had s under (a ∷ []) js is j h = tt
     made parts had s under (a ∷ b ∷ []) js is j h = tt
@@ -206,11 +208,17 @@ after_explain rest = go (all_said explain_grammar rest) (Level explain_shape [] 
     made parts had s under (a ∷ b ∷ n ∷ d ∷ []) [] is j h = tt
     made parts had s under (a ∷ b ∷ n ∷ d ∷ []) (w ∷ v ∷ more) is j h = tt
     made parts had s under (a ∷ b ∷ n ∷ d ∷ []) (w ∷ []) is j h = (
-      record { fares = a; zone = b; account = n; day = d; journal = w; week = is_given (values_of week_option parts) },
+      record { fares = a; zone = b; account = n; day = d; journal = w; ledger = first_given (values_of ledger_option parts); week = is_given (values_of week_option parts) },
       parts,
       ap (λ (l : List Text). codes "explain" ∷ l) s.0,
-      (s.1, is, j, under_flags had week_option refl (values_of week_option parts) (under week_option)),
-      (h.2.2.1, h.2.2.2.1),
+      (
+        s.1,
+        is,
+        j,
+        under_listed had ledger_option (values_of ledger_option parts) (under ledger_option),
+        under_flags had week_option refl (values_of week_option parts) (under week_option),
+      ),
+      h.2.2.1,
       refl,
     )
 
@@ -297,7 +305,6 @@ module _ (rest : List Text) (parts : List Part) (had : List Row) (s : Says serve
       serve_fits lanes_option lw l,
       serve_fits shards_option nw n,
       serve_reads sessions_option,
-      serve_reads close_option,
       serve_reads control_option,
       serve_reads ahead_option,
     ),
@@ -379,13 +386,21 @@ allowed_too (run r) ws h = go (has_journal r) refl
     go : (fits : Bool) → has_journal r ≡ fits → AreWordsOf (allowed (run r)) ws
     go true is = rw is h
     go false is = rw is tt
-allowed_too (check c) ws h = go (has_against c) refl
+allowed_too (check c) ws h = go (may_check c) refl
   where
-    go : (fits : Bool) → has_against c ≡ fits → AreWordsOf (allowed (check c)) ws
+    go : (fits : Bool) → may_check c ≡ fits → AreWordsOf (allowed (check c)) ws
     go true is = rw is h
     go false is = rw is tt
-allowed_too (statement s) ws h = h
-allowed_too (explain e) ws h = h
+allowed_too (statement s) ws h = go (is_some s.day) refl
+  where
+    go : (fits : Bool) → is_some s.day ≡ fits → AreWordsOf (allowed (statement s)) ws
+    go true is = rw is h
+    go false is = rw is tt
+allowed_too (explain e) ws h = go (is_some e.day) refl
+  where
+    go : (fits : Bool) → is_some e.day ≡ fits → AreWordsOf (allowed (explain e)) ws
+    go true is = rw is h
+    go false is = rw is tt
 allowed_too (replay a b files) ws h = h
 allowed_too (serve s) ws h = go (is_whole s) refl
   where
@@ -479,11 +494,20 @@ pub asks_run : (ws : List Text) (name : Text) (r : Run) (parts : List Part) → 
 asks_run ws name r parts is are may f z journal = ap asked is ∙ (ap (λ (x : Said). allowed (run_asked x)) (parts_taken run_grammar parts (run_taken r parts are f z) may)
     ∙ (ap allowed (run_is r parts are) ∙ (rw journal refl)))
 
+-- the text of a day begins with no hyphen
+day_has_none : (w : Text) → is_some (day_of_text w) ≡ true → slice_index w 0 ≢ 45
+day_has_none w is = go (day_of_text w) refl
+  where
+    go : (o : Option ℕ) → day_of_text w ≡ o → slice_index w 0 ≢ 45
+    go (Some day) named = day_no_hyphen w day named
+    go None none =
+        let no : false ≡ true = rw none at is in absurd (true≢false (sym no))
+
 once_number : (k : Setting) (o : Option Text) → IfSome o (λ word. reader_of k word ≡ true) → Once k (listed o)
 once_number k None fits = tt
 once_number k (Some v) fits = fits
 
-module _ (t : CheckTexts) (parts : List Part) (are : AreCheckParts t parts) (fits : HasAfterInRange t) where
+module _ (t : CheckTexts) (parts : List Part) (are : AreCheckParts t parts) where
   none_of_check : (k : Setting) → (IsOption check_grammar k → ⊥) → Once k (values_of k parts)
   none_of_check k none = subst (Once k) (sym (no_values check_grammar k none parts are.0)) tt
 
@@ -503,7 +527,7 @@ module _ (t : CheckTexts) (parts : List Part) (are : AreCheckParts t parts) (fit
   check_once early_option = none_of_check early_option (λ e. cc)
   check_once lint_option = subst (Once lint_option) (sym are.2) (once_flags lint_option refl t.lints)
   check_once against_option = subst (Once against_option) (sym are.3) (once_listed against_option t.against (λ v. refl))
-  check_once after_option = subst (Once after_option) (sym are.4) (once_number after_option t.after fits)
+  check_once after_option = subst (Once after_option) (sym are.4) (once_listed after_option t.after (λ v. refl))
   check_once week_option = none_of_check week_option (λ e. cc)
 
   check_taken : slice_index t.fares 0 ≢ 45 → AreTaken check_grammar parts
@@ -518,9 +542,9 @@ module _ (t : CheckTexts) (parts : List Part) (are : AreCheckParts t parts) (fit
   check_is = rw (are.1, are.2, are.3, are.4, given_flags t.lints, first_listed t.against, first_listed t.after) refl
 
 pub asks_check : (ws : List Text) (name : Text) (t : CheckTexts) (parts : List Part) → ws ≡ name ∷ codes "check" ∷ words_of_parts parts → AreCheckParts t parts → StandApart parts
-    → slice_index t.fares 0 ≢ 45 → HasAfterInRange t → has_against (check_of_texts t) ≡ true → asked ws ≡ check (check_of_texts t)
-asks_check ws name t parts is are may f fits against = ap asked is ∙ (ap (λ (x : Said). allowed (check_asked x)) (parts_taken check_grammar parts (check_taken t parts are fits f) may)
-    ∙ (ap allowed (check_is t parts are fits) ∙ (rw against refl)))
+    → slice_index t.fares 0 ≢ 45 → may_check (check_of_texts t) ≡ true → asked ws ≡ check (check_of_texts t)
+asks_check ws name t parts is are may f fits = ap asked is ∙ (ap (λ (x : Said). allowed (check_asked x)) (parts_taken check_grammar parts (check_taken t parts are f) may)
+    ∙ (ap allowed (check_is t parts are) ∙ (rw fits refl)))
 
 module _ (t : StatementTexts) (parts : List Part) (are : AreStatementParts t parts) where
   none_of_statement : (k : Setting) → (IsOption statement_grammar k → ⊥) → Once k (values_of k parts)
@@ -545,11 +569,11 @@ module _ (t : StatementTexts) (parts : List Part) (are : AreStatementParts t par
   statement_once after_option = none_of_statement after_option (λ e. cc)
   statement_once week_option = none_of_statement week_option (λ e. cc)
 
-  statement_taken : slice_index t.fares 0 ≢ 45 → slice_index t.zone 0 ≢ 45 → HasNumbersInRange t → AreTaken statement_grammar parts
-  statement_taken f z n = record {
+  statement_taken : slice_index t.fares 0 ≢ 45 → slice_index t.zone 0 ≢ 45 → is_account t.account ≡ true → is_some (day_of_text t.day) ≡ true → AreTaken statement_grammar parts
+  statement_taken f z n d = record {
     are = are.0;
-    fits = subst (Fits statement_grammar.places) (sym are.1) (refl, (refl, (n.0, (n.1, tt))));
-    hyphens = subst HaveNoHyphens (sym are.1) (f, (z, (number_has_none 1 4_294_967_295 t.account n.0, (number_has_none 4 50_000 t.day n.1, tt))));
+    fits = subst (Fits statement_grammar.places) (sym are.1) (refl, (refl, (n, (refl, tt))));
+    hyphens = subst HaveNoHyphens (sym are.1) (f, (z, (number_has_none 1 4_294_967_295 t.account n, (day_has_none t.day d, tt))));
     once = statement_once;
   }
 
@@ -557,9 +581,10 @@ module _ (t : StatementTexts) (parts : List Part) (are : AreStatementParts t par
   statement_is = rw (are.1, are.2, first_listed t.journal) refl
 
 pub asks_statement : (ws : List Text) (name : Text) (t : StatementTexts) (parts : List Part) → ws ≡ name ∷ codes "statement" ∷ words_of_parts parts → AreStatementParts t parts → StandApart parts
-    → slice_index t.fares 0 ≢ 45 → slice_index t.zone 0 ≢ 45 → HasNumbersInRange t → asked ws ≡ statement (statement_of_texts t)
-asks_statement ws name t parts is are may f z n = ap asked is
-    ∙ (ap (λ (x : Said). allowed (statement_asked x)) (parts_taken statement_grammar parts (statement_taken t parts are f z n) may) ∙ ap allowed (statement_is t parts are))
+    → slice_index t.fares 0 ≢ 45 → slice_index t.zone 0 ≢ 45 → is_account t.account ≡ true → is_some (day_of_text t.day) ≡ true → asked ws ≡ statement (statement_of_texts t)
+asks_statement ws name t parts is are may f z n d = ap asked is
+    ∙ (ap (λ (x : Said). allowed (statement_asked x)) (parts_taken statement_grammar parts (statement_taken t parts are f z n d) may)
+    ∙ (ap allowed (statement_is t parts are) ∙ (rw d refl)))
 
 module _ (t : ExplainTexts) (parts : List Part) (are : AreExplainParts t parts) where
   none_of_explain : (k : Setting) → (IsOption explain_grammar k → ⊥) → Once k (values_of k parts)
@@ -577,28 +602,29 @@ module _ (t : ExplainTexts) (parts : List Part) (are : AreExplainParts t parts) 
   explain_once greeting_option = none_of_explain greeting_option (λ e. cc)
   explain_once journal_option = subst (Once journal_option) (sym are.2) refl
   explain_once sync_option = none_of_explain sync_option (λ e. cc)
-  explain_once ledger_option = none_of_explain ledger_option (λ e. cc)
+  explain_once ledger_option = subst (Once ledger_option) (sym are.3) (once_listed ledger_option t.ledger (λ v. refl))
   explain_once early_option = none_of_explain early_option (λ e. cc)
   explain_once lint_option = none_of_explain lint_option (λ e. cc)
   explain_once against_option = none_of_explain against_option (λ e. cc)
   explain_once after_option = none_of_explain after_option (λ e. cc)
-  explain_once week_option = subst (Once week_option) (sym are.3) (once_flags week_option refl t.week)
+  explain_once week_option = subst (Once week_option) (sym are.4) (once_flags week_option refl t.week)
 
-  explain_taken : slice_index t.fares 0 ≢ 45 → slice_index t.zone 0 ≢ 45 → HasAccountAndDayInRange t → AreTaken explain_grammar parts
-  explain_taken f z n = record {
+  explain_taken : slice_index t.fares 0 ≢ 45 → slice_index t.zone 0 ≢ 45 → is_account t.account ≡ true → is_some (day_of_text t.day) ≡ true → AreTaken explain_grammar parts
+  explain_taken f z n d = record {
     are = are.0;
-    fits = subst (Fits explain_grammar.places) (sym are.1) (refl, (refl, (n.0, (n.1, tt))));
-    hyphens = subst HaveNoHyphens (sym are.1) (f, (z, (number_has_none 1 4_294_967_295 t.account n.0, (number_has_none 4 50_000 t.day n.1, tt))));
+    fits = subst (Fits explain_grammar.places) (sym are.1) (refl, (refl, (n, (refl, tt))));
+    hyphens = subst HaveNoHyphens (sym are.1) (f, (z, (number_has_none 1 4_294_967_295 t.account n, (day_has_none t.day d, tt))));
     once = explain_once;
   }
 
   explain_is : explain_asked (all_of parts) ≡ explain (explain_of_texts t)
-  explain_is = rw (are.1, are.2, are.3, given_flags t.week) refl
+  explain_is = rw (are.1, are.2, are.3, are.4, first_listed t.ledger, given_flags t.week) refl
 
 pub asks_explain : (ws : List Text) (name : Text) (t : ExplainTexts) (parts : List Part) → ws ≡ name ∷ codes "explain" ∷ words_of_parts parts → AreExplainParts t parts → StandApart parts
-    → slice_index t.fares 0 ≢ 45 → slice_index t.zone 0 ≢ 45 → HasAccountAndDayInRange t → asked ws ≡ explain (explain_of_texts t)
-asks_explain ws name t parts is are may f z n = ap asked is
-    ∙ (ap (λ (x : Said). allowed (explain_asked x)) (parts_taken explain_grammar parts (explain_taken t parts are f z n) may) ∙ ap allowed (explain_is t parts are))
+    → slice_index t.fares 0 ≢ 45 → slice_index t.zone 0 ≢ 45 → is_account t.account ≡ true → is_some (day_of_text t.day) ≡ true → asked ws ≡ explain (explain_of_texts t)
+asks_explain ws name t parts is are may f z n d = ap asked is
+    ∙ (ap (λ (x : Said). allowed (explain_asked x)) (parts_taken explain_grammar parts (explain_taken t parts are f z n d) may)
+    ∙ (ap allowed (explain_is t parts are) ∙ (rw d refl)))
 
 many_values : (vs : List Text) → HaveNoHyphens vs → many_given vs ≡ values vs
 many_values [] h = refl
@@ -618,9 +644,9 @@ module _ (t : ServeTexts) (parts : List Part) (are : ArePartsOf t parts) (fits :
   serve_once lanes_option = subst (Once lanes_option) (sym are.2.1) fits.1
   serve_once shards_option = subst (Once shards_option) (sym are.2.2) fits.2
   serve_once sessions_option = subst (Once sessions_option) (sym are.3.0) (once_number sessions_option t.sessions fits.3)
-  serve_once close_option = subst (Once close_option) (sym are.3.1) (once_number close_option t.close fits.4)
-  serve_once control_option = subst (Once control_option) (sym are.3.2) (once_number control_option t.control fits.5)
-  serve_once ahead_option = subst (Once ahead_option) (sym are.3.3) (once_number ahead_option t.ahead fits.6)
+  serve_once close_option = subst (Once close_option) (sym are.3.1) (once_listed close_option t.close (λ v. refl))
+  serve_once control_option = subst (Once control_option) (sym are.3.2) (once_number control_option t.control fits.4)
+  serve_once ahead_option = subst (Once ahead_option) (sym are.3.3) (once_number ahead_option t.ahead fits.5)
   serve_once refused_option = subst (Once refused_option) (sym are.3.4) (once_listed refused_option t.refused (λ v. refl))
   serve_once greeting_option = subst (Once greeting_option) (sym are.3.5) (once_listed greeting_option t.greeting (λ v. refl))
   serve_once journal_option = subst (Once journal_option) (sym are.4) (once_listed journal_option t.journal (λ v. refl))

@@ -7,6 +7,7 @@ use Rattle.clap.specs.Matches.{ReadsOne}
 use Rattle.clap.specs.ValueTests.{is_unsigned_in}
 use Rattle.clap.specs.declared.builder.value_parser.ValueParser.TheVariants as vp
 use Rattle.clap.proofs.ValueTestLemmas.{accepts-Accepts}
+use Rattle.pay_dates.specs.Words.{day_of_text}
 use Rattle.pay_words.specs.Asked.{number_of}
 
 -- a word of a range that these bits hold is read as its number
@@ -26,3 +27,9 @@ pub number_given : (found given : Option Text) (IsRead : Text → Type 0) (read 
     → ((word : Text) → found ≡ Some word → IsRead word → read ≡ Some (number_of word)) → found ≡ given → IfSome given IsRead → read ≡ option_map number_of given
 number_given found None IsRead read none value is fits = none is
 number_given found (Some word) IsRead read none value is fits = value word is fits
+
+-- a day that may be given
+pub day_given : {S : Type 0} (text_of : S → Text) (found : Option S) (given : Option Text) → option_map text_of found ≡ given
+    → option_map (λ s. day_of_text (text_of s)) found ≡ option_map day_of_text given
+day_given text_of None given is = ap (option_map day_of_text) is
+day_given text_of (Some s) given is = ap (option_map day_of_text) is

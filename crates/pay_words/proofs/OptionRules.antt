@@ -43,7 +43,7 @@ abbrev place_parser : Place → ValueParser
 place_parser fares_place = vp.String
 place_parser zone_place = vp.String
 place_parser account_place = vp.Unsigned 1 4_294_967_295
-place_parser day_place = vp.Unsigned 4 50_000
+place_parser day_place = vp.String
 place_parser ledger_place = vp.String
 
 -- as the build fills it in
@@ -71,7 +71,7 @@ parser_for port_option = vp.Unsigned 1 65_535
 parser_for lanes_option = vp.Unsigned 1 15
 parser_for shards_option = vp.Unsigned 1 16
 parser_for sessions_option = vp.Unsigned 1 1_000
-parser_for close_option = vp.Unsigned 4 50_000
+parser_for close_option = vp.String
 parser_for control_option = vp.Unsigned 1 65_535
 parser_for ahead_option = vp.Unsigned 0 86_400
 parser_for refused_option = vp.String
@@ -82,7 +82,7 @@ parser_for ledger_option = vp.String
 parser_for early_option = vp.Bool
 parser_for lint_option = vp.Bool
 parser_for against_option = vp.String
-parser_for after_option = vp.Unsigned 4 50_000
+parser_for after_option = vp.String
 parser_for week_option = vp.Bool
 
 -- the options that a program needs

@@ -95,7 +95,7 @@ module _ (g : Grammar) where
   value_is_no_option lanes_option valued w fits may = number_is_no_option 1 15 w fits
   value_is_no_option shards_option valued w fits may = number_is_no_option 1 16 w fits
   value_is_no_option sessions_option valued w fits may = number_is_no_option 1 1_000 w fits
-  value_is_no_option close_option valued w fits may = number_is_no_option 4 50_000 w fits
+  value_is_no_option close_option valued w fits may = no_option w may
   value_is_no_option control_option valued w fits may = number_is_no_option 1 65_535 w fits
   value_is_no_option ahead_option valued w fits may = number_is_no_option 0 86_400 w fits
   value_is_no_option refused_option valued w fits may = no_option w may
@@ -106,7 +106,7 @@ module _ (g : Grammar) where
   value_is_no_option early_option valued w fits may = cc
   value_is_no_option lint_option valued w fits may = cc
   value_is_no_option against_option valued w fits may = no_option w may
-  value_is_no_option after_option valued w fits may = number_is_no_option 4 50_000 w fits
+  value_is_no_option after_option valued w fits may = no_option w may
   value_is_no_option week_option valued w fits may = cc
 
   -- the words of an option

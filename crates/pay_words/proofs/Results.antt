@@ -5,15 +5,15 @@ use Rattle.clap.specs.Simple.{subcommand_of}
 use Rattle.clap.specs.Kinds.{Kinds}
 use Rattle.clap.specs.Faults.{fault_of}
 use Rattle.clap.specs.declared.error.kind.ErrorKind.TheVariants.{DisplayHelp, DisplayVersion, InvalidSubcommand, OutOfMemory}
-use Rattle.pay_words.specs.Asked.{Asked, HaveNoHyphens, IsAnswer, IsJobOrMemory, allowed, asked, number_of, run, check, statement, explain, replay, serve, audit, rebuild, words_ask, help_asked, help_named, version_asked, usage, IsFaultOf, job_asked, AreJobWords, IsJobInRange, without_dashes}
+use Rattle.pay_words.specs.Asked.{Asked, HaveNoHyphens, IsAnswer, IsJobOrMemory, allowed, asked, check_job, number_of, run, check, statement, explain, replay, serve, audit, rebuild, words_ask, help_asked, help_named, version_asked, usage, IsFaultOf, job_asked, AreJobWords, IsJobInRange, without_dashes}
 use Rattle.pay_words.specs.Options.{Part, StandApart, words_of_parts}
 use Rattle.pay_words.specs.Audit.{AreAuditParts, Audit}
-use Rattle.pay_words.specs.Check.{AreCheckParts, Check, CheckTexts, HasAfterInRange, check_of_texts, has_against}
-use Rattle.pay_words.specs.Explain.{AreExplainParts, Explain, ExplainTexts, HasAccountAndDayInRange, explain_of_texts}
+use Rattle.pay_words.specs.Check.{AreCheckParts, Check, CheckTexts, check_of_texts, has_after_day, has_against, may_check}
+use Rattle.pay_words.specs.Explain.{AreExplainParts, Explain, ExplainTexts, explain_of_texts}
 use Rattle.pay_words.specs.Greeting.{is_greeting}
 use Rattle.pay_words.specs.Run.{AreRunParts, Run, has_journal}
 use Rattle.pay_words.specs.Serve.{AreInRange, ArePartsOf, Serve, ServeTexts, is_whole, last_port, numbers_of}
-use Rattle.pay_words.specs.Statement.{AreStatementParts, HasNumbersInRange, Statement, StatementTexts, statement_of_texts}
+use Rattle.pay_words.specs.Statement.{AreStatementParts, Statement, StatementTexts, statement_of_texts}
 use Rattle.std.specs.List.{list_all}
 use Rattle.std.specs.Option.{option_map_or}
 use Rattle.clap.specs.Words.{HasMatchesOf, IsAmong, all_of, first_of, first_value, matched_of, raw_values, rows_of, subcommand_rows_of}
@@ -26,7 +26,11 @@ use Rattle.clap.proofs.ValueTestLemmas.{accepts-Accepts}
 use Rattle.clap.specs.Walk.{one_of}
 use Rattle.std.proofs.lemmas.Bool.{leb-true, not-true}
 use Rattle.clap.proofs.WalkLemmas.{both, first_value-rows, one_text-rows, raw_values-rows}
-use Rattle.std.specs.Prelude.{IfSome, IsOkAnd, ⊤}
+use Rattle.std.specs.Prelude.{IfSome, IsOkAnd, ⊤, is_some}
+use Rattle.pay_day.specs.Words.{IsDay}
+use Rattle.pay_dates.specs.Words.{day_of_text}
+use Rattle.pay_dates.proofs.ServiceDays.{day_is_day}
+use Rattle.pay_words.specs.OneWord.{is_account}
 use Rattle.pay_words.specs.declared.words.Job.{Job}
 use Rattle.pay_words.specs.declared.words.Job.TheVariants.{Run as RunJob, Check as CheckJob, Statement as StatementJob, Explain as ExplainJob, Replay, Serve as ServeJob, Stay as StayJob, Audit as AuditJob, Rebuild}
 use Rattle.pay_words.specs.declared.words.WordsFault.{WordsFault}
@@ -57,7 +61,7 @@ matched ws m none has = go (words_ask ws) (comes ws)
   where
     go : (x : Asked) → Comes x (fault_of farebox_app ws) (subcommand_of farebox_app ws) → Gives m x
     go (run r) h = (h.1.0, (has refl).1 ∙ h.1.1, h.1.2)
-    go (check c) h = (h.1.0, h.1.1, (has refl).1 ∙ h.1.2, h.1.3, h.1.4, h.1.5)
+    go (check c) h = (h.1.0, h.1.1, (has refl).1 ∙ h.1.2, h.1.3, h.1.4)
     go (statement s) h = (h.1.0, h.1.1, (has refl).1 ∙ h.1.2, h.1.3, h.1.4, h.1.5)
     go (explain e) h = (h.1.0, h.1.1, (has refl).1 ∙ h.1.2, h.1.3, h.1.4, h.1.5)
     go (replay a b files) h = ap (option_map values_and_files) ((has refl).1 ∙ h.1)
@@ -162,7 +166,7 @@ check_texts m f c same gives =
       first_value-rows f (codes "FARES") ∙ (ap (first_of (codes "FARES")) rows_are ∙ h.0),
       one_text-rows f (codes "lint") ∙ (ap (one_of (codes "lint")) rows_are ∙ h.1),
       first_value-rows f (codes "against") ∙ (ap (first_of (codes "against")) rows_are ∙ h.2),
-      one_text-rows f (codes "after") ∙ (ap (one_of (codes "after")) rows_are ∙ h.3),
+      first_value-rows f (codes "after") ∙ (ap (first_of (codes "after")) rows_are ∙ h.3),
     )
 
 -- the matches of `statement` have the words that it is given
@@ -175,7 +179,7 @@ statement_texts m f s same gives =
       first_value-rows f (codes "FARES") ∙ (ap (first_of (codes "FARES")) rows_are ∙ h.0),
       first_value-rows f (codes "ZONE") ∙ (ap (first_of (codes "ZONE")) rows_are ∙ h.1),
       one_text-rows f (codes "ACCOUNT") ∙ (ap (one_of (codes "ACCOUNT")) rows_are ∙ h.2),
-      one_text-rows f (codes "DAY") ∙ (ap (one_of (codes "DAY")) rows_are ∙ h.3),
+      first_value-rows f (codes "DAY") ∙ (ap (first_of (codes "DAY")) rows_are ∙ h.3),
       first_value-rows f (codes "journal") ∙ (ap (first_of (codes "journal")) rows_are ∙ h.4),
     )
 
@@ -189,9 +193,10 @@ explain_texts m f e same gives =
       first_value-rows f (codes "FARES") ∙ (ap (first_of (codes "FARES")) rows_are ∙ h.0),
       first_value-rows f (codes "ZONE") ∙ (ap (first_of (codes "ZONE")) rows_are ∙ h.1),
       one_text-rows f (codes "ACCOUNT") ∙ (ap (one_of (codes "ACCOUNT")) rows_are ∙ h.2),
-      one_text-rows f (codes "DAY") ∙ (ap (one_of (codes "DAY")) rows_are ∙ h.3),
+      first_value-rows f (codes "DAY") ∙ (ap (first_of (codes "DAY")) rows_are ∙ h.3),
       first_value-rows f (codes "journal") ∙ (ap (first_of (codes "journal")) rows_are ∙ h.4),
-      one_text-rows f (codes "week") ∙ (ap (one_of (codes "week")) rows_are ∙ h.5),
+      first_value-rows f (codes "ledger") ∙ (ap (first_of (codes "ledger")) rows_are ∙ h.5),
+      one_text-rows f (codes "week") ∙ (ap (one_of (codes "week")) rows_are ∙ h.6),
     )
 
 -- the matches of `replay` have its values
@@ -224,7 +229,7 @@ serve_texts m f s same gives =
       one_text-rows f (codes "lanes") ∙ (ap (one_of (codes "lanes")) rows_are ∙ h.3),
       one_text-rows f (codes "shards") ∙ (ap (one_of (codes "shards")) rows_are ∙ h.4),
       one_text-rows f (codes "sessions") ∙ (ap (one_of (codes "sessions")) rows_are ∙ h.5),
-      one_text-rows f (codes "close") ∙ (ap (one_of (codes "close")) rows_are ∙ h.6),
+      first_value-rows f (codes "close") ∙ (ap (first_of (codes "close")) rows_are ∙ h.6),
       one_text-rows f (codes "control") ∙ (ap (one_of (codes "control")) rows_are ∙ h.7),
       one_text-rows f (codes "ahead") ∙ (ap (one_of (codes "ahead")) rows_are ∙ h.8),
       first_value-rows f (codes "refused") ∙ (ap (first_of (codes "refused")) rows_are ∙ h.9),
@@ -278,8 +283,8 @@ memory_answers x (Err fault) h = inl h
 pub record ReadsJobs (m : ArgMatches) (r : Result Job WordsFault) : Type 0 where
   pub of_run : (x : Run) → GivesRun m x → IsAnswer (allowed (run x)) r
   pub of_check : (c : Check) → GivesCheck m c → IsAnswer (allowed (check c)) r
-  pub of_statement : (s : Statement) → GivesStatement m s → IsOkAnd r (λ job. job_asked job ≡ statement s)
-  pub of_explain : (e : Explain) → GivesExplain m e → IsOkAnd r (λ job. job_asked job ≡ explain e)
+  pub of_statement : (s : Statement) → GivesStatement m s → IsAnswer (allowed (statement s)) r
+  pub of_explain : (e : Explain) → GivesExplain m e → IsAnswer (allowed (explain e)) r
   pub of_replay : (fares zone : Text) (files : List Text) → GivesReplay m fares zone files → IsJobOrMemory (replay fares zone files) r
   pub of_serve : (s : Serve) → GivesServe m s → IsAnswer (allowed (serve s)) r
   pub of_audit : (a : Audit) → GivesAudit m a → IsOkAnd r (λ job. job_asked job ≡ audit a)
@@ -288,8 +293,8 @@ pub record ReadsJobs (m : ArgMatches) (r : Result Job WordsFault) : Type 0 where
 pub job_read : (m : ArgMatches) (x : Asked) (r : Result Job WordsFault) → Gives m x → ReadsJobs m r → Answers (allowed x) r
 job_read m (run y) r h reads = answer_answers (allowed (run y)) r (reads.of_run y h)
 job_read m (check c) r h reads = answer_answers (allowed (check c)) r (reads.of_check c h)
-job_read m (statement s) r h reads = job_answers (statement s) r (reads.of_statement s h)
-job_read m (explain e) r h reads = job_answers (explain e) r (reads.of_explain e h)
+job_read m (statement s) r h reads = answer_answers (allowed (statement s)) r (reads.of_statement s h)
+job_read m (explain e) r h reads = answer_answers (allowed (explain e)) r (reads.of_explain e h)
 job_read m (replay a b files) r h reads = memory_answers (replay a b files) r (reads.of_replay a b files h)
 job_read m (serve s) r h reads = answer_answers (allowed (serve s)) r (reads.of_serve s h)
 job_read m (audit a) r h reads = job_answers (audit a) r (reads.of_audit a h)
@@ -326,10 +331,12 @@ by_memory x y Usage e task (inl h) = absurd (subst IsTask (sym e ∙ h) task)
 by_memory x y Usage e task (inr h) = absurd (subst IsTask (sym e ∙ h) task)
 by_memory x y Memory e task h = refl
 
--- what is asked for has its journal, its other fare file, or what its form of a service needs
+-- what is asked for has its journal, its day, its other fare file, or what its form of a service needs
 abbrev IsAllowed : Asked → Type 0
 IsAllowed (run r) = has_journal r ≡ true
-IsAllowed (check c) = has_against c ≡ true
+IsAllowed (check c) = may_check c ≡ true
+IsAllowed (statement s) = is_some s.day ≡ true
+IsAllowed (explain e) = is_some e.day ≡ true
 IsAllowed (serve s) = is_whole s ≡ true
 IsAllowed _ = ⊤
 
@@ -339,9 +346,9 @@ asked_is_allowed (run r) = go (has_journal r) refl
     go : (t : Bool) → has_journal r ≡ t → IsAllowed (allowed (run r))
     go true is = rw is is
     go false is = rw is tt
-asked_is_allowed (check c) = go (has_against c) refl
+asked_is_allowed (check c) = go (may_check c) refl
   where
-    go : (t : Bool) → has_against c ≡ t → IsAllowed (allowed (check c))
+    go : (t : Bool) → may_check c ≡ t → IsAllowed (allowed (check c))
     go true is = rw is is
     go false is = rw is tt
 asked_is_allowed (serve s) = go (is_whole s) refl
@@ -349,8 +356,16 @@ asked_is_allowed (serve s) = go (is_whole s) refl
     go : (t : Bool) → is_whole s ≡ t → IsAllowed (allowed (serve s))
     go true is = rw is is
     go false is = rw is tt
-asked_is_allowed (statement s) = tt
-asked_is_allowed (explain e) = tt
+asked_is_allowed (statement s) = go (is_some s.day) refl
+  where
+    go : (t : Bool) → is_some s.day ≡ t → IsAllowed (allowed (statement s))
+    go true is = rw is is
+    go false is = rw is tt
+asked_is_allowed (explain e) = go (is_some e.day) refl
+  where
+    go : (t : Bool) → is_some e.day ≡ t → IsAllowed (allowed (explain e))
+    go true is = rw is is
+    go false is = rw is tt
 asked_is_allowed (replay a b files) = tt
 asked_is_allowed (audit a) = tt
 asked_is_allowed (rebuild fares ledger) = tt
@@ -373,6 +388,14 @@ given_in_range least most (Some w) (Some n) fits is =
     let same : number_of w ≡ n = cc in
     number_in_range least most w n fits same
 
+-- a day that is given is a service day
+days_are : (word : Option Text) (day : Option ℕ) → option_map day_of_text word ≡ option_map Some day → IfSome day IsDay
+days_are word None is = tt
+days_are None (Some day) is = cc
+days_are (Some w) (Some day) is =
+    let named : day_of_text w ≡ Some day = cc in
+    day_is_day w day named
+
 -- of a range, the number that is not exceeded
 at_most : (least most : ℕ) (n : Option ℕ) → IfSome n (λ k. (least ≤ k) × (k ≤ most)) → IfSome n (λ k. k ≤ most)
 at_most least most None within = tt
@@ -393,19 +416,17 @@ job_in_range : (ws : List Text) (job : Job) → asked ws ≡ job_asked job → I
 job_in_range ws (RunJob w) e = subst IsAllowed e (asked_is_allowed (words_ask ws))
 job_in_range ws (CheckJob w) e =
     let made = job_words_are ws (CheckJob w) e in (
-      subst IsAllowed e (asked_is_allowed (words_ask ws)),
-      given_in_range 4 50_000 made.0.after w.after made.4 (ap (λ (c : Check). c.after) made.5),
+      (both (has_after_day (check_job w)) (has_against (check_job w)) (subst IsAllowed e (asked_is_allowed (words_ask ws)))).1,
+      days_are made.0.after w.after (ap (λ (c : Check). c.after) made.4),
     )
 job_in_range ws (StatementJob w) e =
     let made = job_words_are ws (StatementJob w) e in
-    let account = number_in_range 1 4_294_967_295 made.0.account w.account made.4.0 (ap (λ (s : Statement). s.account) made.5) in
-    let day = number_in_range 4 50_000 made.0.day w.day made.4.1 (ap (λ (s : Statement). s.day) made.5) in
-    (account.0, account.1, day.0, day.1)
+    let account = number_in_range 1 4_294_967_295 made.0.account w.account made.4 (ap (λ (s : Statement). s.account) made.5) in
+    (account.0, account.1, day_is_day made.0.day w.day (ap (λ (s : Statement). s.day) made.5))
 job_in_range ws (ExplainJob w) e =
     let made = job_words_are ws (ExplainJob w) e in
-    let account = number_in_range 1 4_294_967_295 made.0.account w.account made.4.0 (ap (λ (x : Explain). x.account) made.5) in
-    let day = number_in_range 4 50_000 made.0.day w.day made.4.1 (ap (λ (x : Explain). x.day) made.5) in
-    (account.0, account.1, day.0, day.1)
+    let account = number_in_range 1 4_294_967_295 made.0.account w.account made.4 (ap (λ (x : Explain). x.account) made.5) in
+    (account.0, account.1, day_is_day made.0.day w.day (ap (λ (x : Explain). x.day) made.5))
 job_in_range ws (Replay w) e = (subst (λ (x : Asked). AreWordsOf x (drop 1 ws)) e (in_order ws)).1
 job_in_range ws (ServeJob w) e =
     let made = job_words_are ws (ServeJob w) e in
@@ -413,18 +434,18 @@ job_in_range ws (ServeJob w) e =
     let lanes = number_in_range 1 15 made.0.lanes w.lanes made.4.1 (ap (λ (s : Serve). s.lanes) made.5) in
     let shards = number_in_range 1 16 made.0.shards w.shards made.4.2 (ap (λ (s : Serve). s.shards) made.5) in
     let sessions = given_in_range 1 1_000 made.0.sessions (Some w.sessions) made.4.3 (ap (λ (s : Serve). s.sessions) made.5) in
-    let close = given_in_range 4 50_000 made.0.close (Some w.close) made.4.4 (ap (λ (s : Serve). s.close) made.5) in
+    let close = days_are made.0.close (Some w.close) (ap (λ (s : Serve). s.close) made.5) in
     let ports : last_port w.port w.lanes ≤ 65_535 = leb-true (last_port w.port w.lanes) 65_535 (subst IsAllowed e (asked_is_allowed (words_ask ws))) in
-    (port.0, lanes.0, lanes.1, ports, shards.0, shards.1, sessions.0, sessions.1, close.0, close.1)
+    (port.0, lanes.0, lanes.1, ports, shards.0, shards.1, sessions.0, sessions.1, close)
 job_in_range ws (StayJob w) e =
     let made = job_words_are ws (StayJob w) e in
     let port = number_in_range 1 65_535 made.0.port w.port made.4.0 (ap (λ (s : Serve). s.port) made.5) in
     let lanes = number_in_range 1 15 made.0.lanes w.lanes made.4.1 (ap (λ (s : Serve). s.lanes) made.5) in
     let shards = number_in_range 1 16 made.0.shards w.shards made.4.2 (ap (λ (s : Serve). s.shards) made.5) in
-    let control = given_in_range 1 65_535 made.0.control (Some w.control) made.4.5 (ap (λ (s : Serve). s.control) made.5) in
+    let control = given_in_range 1 65_535 made.0.control (Some w.control) made.4.4 (ap (λ (s : Serve). s.control) made.5) in
     let stays = both _ _ (both _ _ (subst IsAllowed e (asked_is_allowed (words_ask ws)))).0 in
     let room = room_left w.control w.port w.lanes stays.0 in
-    let ahead = given_in_range 0 86_400 made.0.ahead w.ahead made.4.6 (ap (λ (s : Serve). s.ahead) made.5) in
+    let ahead = given_in_range 0 86_400 made.0.ahead w.ahead made.4.5 (ap (λ (s : Serve). s.ahead) made.5) in
     (port.0, control.0, room.0, lanes.0, room.1, shards.0, shards.1, at_most 0 86_400 w.ahead ahead, greets (λ s. s.now) w.greeting stays.1)
 job_in_range ws (AuditJob w) e = tt
 job_in_range ws (Rebuild w) e = tt
@@ -458,16 +479,16 @@ module _ (r : Result Job WordsFault) (ws : List Text) (ok : IfOk r (λ job. aske
   result_run name x parts is are may f z journal = job_or_memory r ws (run x) ok err (asks_run ws name x parts is are may f z journal) tt
 
   pub result_check : (name : Text) (t : CheckTexts) (parts : List Part) → ws ≡ name ∷ codes "check" ∷ words_of_parts parts → AreCheckParts t parts → StandApart parts
-      → slice_index t.fares 0 ≢ 45 → HasAfterInRange t → has_against (check_of_texts t) ≡ true → IsJobOrMemory (check (check_of_texts t)) r
-  result_check name t parts is are may f fits against = job_or_memory r ws (check (check_of_texts t)) ok err (asks_check ws name t parts is are may f fits against) tt
+      → slice_index t.fares 0 ≢ 45 → may_check (check_of_texts t) ≡ true → IsJobOrMemory (check (check_of_texts t)) r
+  result_check name t parts is are may f fits = job_or_memory r ws (check (check_of_texts t)) ok err (asks_check ws name t parts is are may f fits) tt
 
   pub result_statement : (name : Text) (t : StatementTexts) (parts : List Part) → ws ≡ name ∷ codes "statement" ∷ words_of_parts parts → AreStatementParts t parts → StandApart parts
-      → slice_index t.fares 0 ≢ 45 → slice_index t.zone 0 ≢ 45 → HasNumbersInRange t → IsJobOrMemory (statement (statement_of_texts t)) r
-  result_statement name t parts is are may f z n = job_or_memory r ws (statement (statement_of_texts t)) ok err (asks_statement ws name t parts is are may f z n) tt
+      → slice_index t.fares 0 ≢ 45 → slice_index t.zone 0 ≢ 45 → is_account t.account ≡ true → is_some (day_of_text t.day) ≡ true → IsJobOrMemory (statement (statement_of_texts t)) r
+  result_statement name t parts is are may f z n d = job_or_memory r ws (statement (statement_of_texts t)) ok err (asks_statement ws name t parts is are may f z n d) tt
 
   pub result_explain : (name : Text) (t : ExplainTexts) (parts : List Part) → ws ≡ name ∷ codes "explain" ∷ words_of_parts parts → AreExplainParts t parts → StandApart parts
-      → slice_index t.fares 0 ≢ 45 → slice_index t.zone 0 ≢ 45 → HasAccountAndDayInRange t → IsJobOrMemory (explain (explain_of_texts t)) r
-  result_explain name t parts is are may f z n = job_or_memory r ws (explain (explain_of_texts t)) ok err (asks_explain ws name t parts is are may f z n) tt
+      → slice_index t.fares 0 ≢ 45 → slice_index t.zone 0 ≢ 45 → is_account t.account ≡ true → is_some (day_of_text t.day) ≡ true → IsJobOrMemory (explain (explain_of_texts t)) r
+  result_explain name t parts is are may f z n d = job_or_memory r ws (explain (explain_of_texts t)) ok err (asks_explain ws name t parts is are may f z n d) tt
 
   pub result_replay : (name fares zone file : Text) (files : List Text) → ws ≡ name ∷ codes "replay" ∷ fares ∷ zone ∷ file ∷ files
       → slice_index fares 0 ≢ 45 → slice_index zone 0 ≢ 45 → HaveNoHyphens (file ∷ files) → IsJobOrMemory (replay fares zone (file ∷ files)) r

@@ -1,6 +1,6 @@
 -- What `clap` makes of the words after `check`.
-use Rattle.std.proofs.Common.{◌≡◌, ◌∙◌, ◌+◌, codes, true, false, refl, sym, ap, subst, List, [], ◌∷◌, ◌++◌, Some, None}
-use Rattle.std.specs.Prelude.{IfSome, fold, min, option_map}
+use Rattle.std.proofs.Common.{◌≡◌, ◌∙◌, ◌+◌, codes, false, refl, sym, ap, subst, List, [], ◌∷◌, ◌++◌, Some, None}
+use Rattle.std.specs.Prelude.{fold, min, option_map}
 use Rattle.clap.specs.Lexer.{usize_max}
 use Rattle.clap.specs.Walk.{Row, Rule, Text, arg_by_index, idle, with_default}
 use Rattle.clap.specs.Simple.{Shape}
@@ -8,11 +8,10 @@ use Rattle.clap.specs.Kinds.{Kinds}
 use Rattle.clap.specs.Faults.{check_fault}
 use Rattle.pay_words.specs.Asked.{check_asked, check_of}
 use Rattle.pay_words.specs.Check.{check_grammar}
-use Rattle.pay_words.specs.OneWord.{is_day}
 use Rattle.pay_words.specs.Options.{Place, Said, all_of, all_said, help_wanted, not_taken, place_after, plain_words, values_of}
 use Rattle.pay_words.specs.Options.{fares_place, lint_option, against_option, after_option}
 use Rattle.pay_words.specs.Run.{first_given, is_given}
-use Rattle.pay_words.proofs.OptionEnds.{IsFinal, flag_final, row_first, row_one, under_first, under_one}
+use Rattle.pay_words.proofs.OptionEnds.{IsFinal, flag_final, row_first, under_first}
 use Rattle.pay_words.proofs.OptionRows.{no_default_faults, no_defaults}
 use Rattle.pay_words.proofs.OptionRules.{IsBuilt, is_needed, position_of, rule_at, rule_by_long, rules_for, setting_rule}
 use Rattle.pay_words.proofs.WordLevels.{Level, rows_from}
@@ -55,12 +54,6 @@ check_built = record {
 
 -- ---- the end of the words
 
--- a day that was given passed its reader
-pub under_day : (rows : List Row) (vs : List Text) → Under rows after_option vs → IfSome (first_given vs) (λ word. is_day word ≡ true)
-under_day rows [] h = tt
-under_day rows (v ∷ []) h = h.1
-under_day rows (v ∷ w ∷ more) h = absurd h
-
 check_ended : (rows : List Row) → fold with_default rows check_rules ≡ with_default rows (setting_rule false lint_option)
 check_ended rows =
     ap (λ (r : List Row). fold with_default r (rules_for is_needed (lint_option ∷ against_option ∷ after_option ∷ []))) (no_defaults (rule_at fares_place ∷ []) rows (refl, tt))
@@ -83,9 +76,8 @@ finish (a ∷ []) ls gs ds had rows h g d f =
           rw fares refl,
           f.1,
           ap row_first (f.0 (codes "against") refl) ∙ under_first had against_option gs g,
-          ap row_one (f.0 (codes "after") refl) ∙ under_one had after_option ds d,
+          ap row_first (f.0 (codes "after") refl) ∙ under_first had after_option ds d,
         ),
-        under_day had ds d,
         refl,
       ),
     )

@@ -1,6 +1,7 @@
 -- What `clap` makes of the words after `explain`.
 use Rattle.std.proofs.Common.{◌≡◌, ◌∙◌, ◌+◌, codes, true, false, refl, sym, ap, subst, List, [], ◌∷◌, ◌++◌, Some, None}
 use Rattle.std.specs.Prelude.{fold, min, option_map}
+use Rattle.std.specs.Str.{bytes_eq}
 use Rattle.clap.specs.Lexer.{usize_max}
 use Rattle.clap.specs.Walk.{Row, Rule, Text, arg_by_index, idle, one_of, with_default}
 use Rattle.clap.specs.Simple.{Shape}
@@ -9,10 +10,10 @@ use Rattle.clap.specs.Faults.{check_fault}
 use Rattle.pay_words.specs.Asked.{explain_asked, explain_of}
 use Rattle.pay_words.specs.CommandLine.{flag_text}
 use Rattle.pay_words.specs.Explain.{explain_grammar}
-use Rattle.pay_words.specs.Options.{Part, Place, Said, all_of, all_said, help_wanted, not_taken, place_after, plain_words, values_of}
-use Rattle.pay_words.specs.Options.{fares_place, zone_place, account_place, day_place, journal_option, week_option}
-use Rattle.pay_words.specs.Run.{is_given}
-use Rattle.pay_words.proofs.OptionEnds.{IsFinal, flag_final, places_final, under_final}
+use Rattle.pay_words.specs.Options.{Part, Place, Said, Setting, all_of, all_said, help_wanted, name_of, not_taken, place_after, plain_words, values_of}
+use Rattle.pay_words.specs.Options.{fares_place, zone_place, account_place, day_place, journal_option, ledger_option, week_option}
+use Rattle.pay_words.specs.Run.{first_given, is_given}
+use Rattle.pay_words.proofs.OptionEnds.{IsFinal, flag_final, places_final, under_final, under_first}
 use Rattle.pay_words.proofs.OptionRows.{no_default_faults, no_defaults}
 use Rattle.pay_words.proofs.OptionRules.{IsBuilt, Needs, position_of, rule_at, rule_by_long, rules_for, setting_rule}
 use Rattle.pay_words.proofs.WordLevels.{Level, rows_from}
@@ -27,7 +28,7 @@ explain_needs journal_option = true
 explain_needs _ = false
 
 abbrev pub explain_rules : List Rule
-explain_rules = rule_at fares_place ∷ rule_at zone_place ∷ rule_at account_place ∷ rule_at day_place ∷ rules_for explain_needs (journal_option ∷ week_option ∷ [])
+explain_rules = rule_at fares_place ∷ rule_at zone_place ∷ rule_at account_place ∷ rule_at day_place ∷ rules_for explain_needs (journal_option ∷ ledger_option ∷ week_option ∷ [])
 
 abbrev pub explain_shape : Shape
 explain_shape = program_shape (codes "explain") explain_rules
@@ -54,33 +55,33 @@ explain_built = record {
   needs = explain_needs;
   by_long = λ name. rule_by_long explain_needs explain_grammar.options name;
   by_short = λ x. refl;
-  by_name = (refl, (refl, tt));
+  by_name = (refl, (refl, (refl, tt)));
   by_place = (refl, (refl, (refl, (refl, tt))));
   by_index = explain_index;
   next = explain_next;
-  defaults = λ rows. no_default_faults explain_rules rows (refl, (refl, (refl, (refl, (refl, (refl, (refl, tt)))))));
+  defaults = λ rows. no_default_faults explain_rules rows (refl, (refl, (refl, (refl, (refl, (refl, (refl, (refl, tt))))))));
 }
 
 -- ---- the end of the words
 
 -- what is asked for by all that was given, and what `clap` says of it
-finish : (vs js ws : List Text) (rows : List Row) → Places explain_grammar.places vs rows → Under rows journal_option js
-    → one_of (codes "week") rows ≡ Some (flag_text (is_given ws)) → Comes (explain_of vs js ws) (check_fault explain_shape rows false) (Some (codes "explain", rows))
-finish [] js ws rows h j w = rw h.0 refl
-finish (a ∷ []) js ws rows h j w = rw (h.0, h.2.0) refl
-finish (a ∷ b ∷ []) js ws rows h j w = rw (h.0, h.2.0, h.2.2.0) refl
-finish (a ∷ b ∷ n ∷ []) js ws rows h j w = rw (h.0, h.2.0, h.2.2.0, h.2.2.2.0) refl
-finish (a ∷ b ∷ n ∷ d ∷ e ∷ more) js ws rows h j w = absurd h.2.2.2.2
-finish (a ∷ b ∷ n ∷ d ∷ []) [] ws rows h j w = rw (h.0, h.2.0, h.2.2.0, h.2.2.2.0, j) refl
-finish (a ∷ b ∷ n ∷ d ∷ []) (x ∷ y ∷ more) ws rows h j w = absurd j
-finish (a ∷ b ∷ n ∷ d ∷ []) (x ∷ []) ws rows h j w = (
+finish : (vs js ls ws : List Text) (rows : List Row) → Places explain_grammar.places vs rows → Under rows journal_option js → Under rows ledger_option ls
+    → one_of (codes "week") rows ≡ Some (flag_text (is_given ws)) → Comes (explain_of vs js ls ws) (check_fault explain_shape rows false) (Some (codes "explain", rows))
+finish [] js ls ws rows h j l w = rw h.0 refl
+finish (a ∷ []) js ls ws rows h j l w = rw (h.0, h.2.0) refl
+finish (a ∷ b ∷ []) js ls ws rows h j l w = rw (h.0, h.2.0, h.2.2.0) refl
+finish (a ∷ b ∷ n ∷ []) js ls ws rows h j l w = rw (h.0, h.2.0, h.2.2.0, h.2.2.2.0) refl
+finish (a ∷ b ∷ n ∷ d ∷ e ∷ more) js ls ws rows h j l w = absurd h.2.2.2.2
+finish (a ∷ b ∷ n ∷ d ∷ []) [] ls ws rows h j l w = rw (h.0, h.2.0, h.2.2.0, h.2.2.2.0, j) refl
+finish (a ∷ b ∷ n ∷ d ∷ []) (x ∷ y ∷ more) ls ws rows h j l w = absurd j
+finish (a ∷ b ∷ n ∷ d ∷ []) (x ∷ []) ls ws rows h j l w = (
   rw (h.0, h.2.0, h.2.2.0, h.2.2.2.0, j.0) refl,
   (
-    record { fares = a; zone = b; account = n; day = d; journal = x; week = is_given ws },
+    record { fares = a; zone = b; account = n; day = d; journal = x; ledger = first_given ls; week = is_given ws },
     rows,
     refl,
-    (rw h.0 refl, rw h.2.0 refl, rw h.2.2.0 refl, rw h.2.2.2.0 refl, rw j.0 refl, w),
-    (h.2.2.1, h.2.2.2.1),
+    (rw h.0 refl, rw h.2.0 refl, rw h.2.2.0 refl, rw h.2.2.2.0 refl, rw j.0 refl, under_first rows ledger_option ls l, w),
+    h.2.2.1,
     refl,
   ),
 )
@@ -88,8 +89,8 @@ finish (a ∷ b ∷ n ∷ d ∷ []) (x ∷ []) ws rows h j w = (
 explain_ended : (rows : List Row) → fold with_default rows explain_rules ≡ with_default rows (setting_rule false week_option)
 explain_ended rows =
     ap (λ (r : List Row). fold with_default r (rules_for explain_needs (week_option ∷ [])))
-    (no_defaults (rule_at fares_place ∷ rule_at zone_place ∷ rule_at account_place ∷ rule_at day_place ∷ setting_rule true journal_option ∷ []) rows
-    (refl, (refl, (refl, (refl, (refl, tt))))))
+    (no_defaults (rule_at fares_place ∷ rule_at zone_place ∷ rule_at account_place ∷ rule_at day_place ∷ setting_rule true journal_option ∷ setting_rule false ledger_option ∷ []) rows
+    (refl, (refl, (refl, (refl, (refl, (refl, tt)))))))
     ∙ no_defaults (rules_for explain_needs []) (with_default rows (setting_rule false week_option)) (refl, tt)
 
 -- the rows with what the flag comes to
@@ -100,10 +101,13 @@ module _ (parts : List Part) (had : List Row) (h : Holds explain_grammar parts (
   week_final : IsFinal week_option had (values_of week_option parts) all_rows
   week_final = flag_final week_option refl had (values_of week_option parts) (h.2 week_option)
 
+  explain_under : (k : Setting) → bytes_eq (name_of week_option) (name_of k) ≡ false → Under all_rows k (values_of k parts)
+  explain_under k other = under_final week_option had all_rows (values_of week_option parts) week_final k other (values_of k parts) (h.2 k)
+
   finished_explain : Comes (explain_asked (all_of parts)) (check_fault explain_shape all_rows false) (Some (codes "explain", all_rows))
-  finished_explain = finish (plain_words parts) (values_of journal_option parts) (values_of week_option parts) all_rows
+  finished_explain = finish (plain_words parts) (values_of journal_option parts) (values_of ledger_option parts) (values_of week_option parts) all_rows
       (places_final week_option had all_rows (values_of week_option parts) week_final explain_grammar.places (plain_words parts) h.1)
-      (under_final week_option had all_rows (values_of week_option parts) week_final journal_option refl (values_of journal_option parts) (h.2 journal_option))
+      (explain_under journal_option refl) (explain_under ledger_option refl)
       week_final.1
 
 -- what the words of `explain` come to

@@ -69,7 +69,7 @@ finish (a ∷ b ∷ n ∷ d ∷ []) js rows h j = (
     rows,
     refl,
     (rw h.0 refl, rw h.2.0 refl, rw h.2.2.0 refl, rw h.2.2.2.0 refl, under_first rows journal_option js j),
-    (h.2.2.1, h.2.2.2.1),
+    h.2.2.1,
     refl,
   ),
 )

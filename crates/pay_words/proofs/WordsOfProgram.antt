@@ -12,11 +12,12 @@ use Rattle.clap.specs.declared.parser.matches.ValueSource.TheVariants.{CommandLi
 use Rattle.pay_words.specs.Asked.{Asked, Word, run, check, statement, explain, replay, serve, audit, rebuild, help_asked, help_named, version_asked, usage}
 use Rattle.pay_words.specs.Asked as words
 use Rattle.pay_words.specs.Audit.{Audit}
-use Rattle.pay_words.specs.Check.{Check, CheckTexts, HasAfterInRange, check_of_texts}
-use Rattle.pay_words.specs.Explain.{Explain, ExplainTexts, HasAccountAndDayInRange, explain_of_texts}
+use Rattle.pay_words.specs.Check.{Check, CheckTexts, check_of_texts}
+use Rattle.pay_words.specs.Explain.{Explain, ExplainTexts, explain_of_texts}
+use Rattle.pay_words.specs.OneWord.{is_account}
 use Rattle.pay_words.specs.Run.{Run}
 use Rattle.pay_words.specs.Serve.{AreInRange, Serve, ServeTexts, numbers_of}
-use Rattle.pay_words.specs.Statement.{HasNumbersInRange, Statement, StatementTexts, statement_of_texts}
+use Rattle.pay_words.specs.Statement.{Statement, StatementTexts, statement_of_texts}
 use Rattle.pay_words.specs.CommandLine.{HaveAudit, HaveCheckTexts, HaveExplainTexts, HaveFaresAndLedger, HaveRun, HaveServeTexts, HaveStatementTexts, required_word}
 use Rattle.pay_words.proofs.WordKinds.{LongOptions, Reads, Refuses, ShortOptions}
 use Rattle.pay_words.proofs.WordLevels.{Level, level_next, level_refuses, level_shows, place, rows_from, rows_next, turn_dashes, turn_refuses, turn_shows, turn_value, walked_dashes, walked_value}
@@ -64,15 +65,15 @@ ComesWithRun r sub = (rows : List Row) × (sub ≡ Some (codes "run", rows)) × 
 
 -- the matches are of words that `check` is given, of these values
 abbrev pub ComesWithCheck : Check → Option (Text × List Row) → Type 0
-ComesWithCheck c sub = (t : CheckTexts) × (rows : List Row) × (sub ≡ Some (codes "check", rows)) × HaveCheckTexts rows t × HasAfterInRange t × (check_of_texts t ≡ c)
+ComesWithCheck c sub = (t : CheckTexts) × (rows : List Row) × (sub ≡ Some (codes "check", rows)) × HaveCheckTexts rows t × (check_of_texts t ≡ c)
 
--- the matches are of words that `statement` is given, of these numbers
+-- the matches are of words that `statement` is given, of these values
 abbrev pub ComesWithNumbers : Statement → Option (Text × List Row) → Type 0
-ComesWithNumbers s sub = (t : StatementTexts) × (rows : List Row) × (sub ≡ Some (codes "statement", rows)) × HaveStatementTexts rows t × HasNumbersInRange t × (statement_of_texts t ≡ s)
+ComesWithNumbers s sub = (t : StatementTexts) × (rows : List Row) × (sub ≡ Some (codes "statement", rows)) × HaveStatementTexts rows t × (is_account t.account ≡ true) × (statement_of_texts t ≡ s)
 
--- the matches are of words that `explain` is given, of these numbers
+-- the matches are of words that `explain` is given, of these values
 abbrev pub ComesWithJournal : Explain → Option (Text × List Row) → Type 0
-ComesWithJournal e sub = (t : ExplainTexts) × (rows : List Row) × (sub ≡ Some (codes "explain", rows)) × HaveExplainTexts rows t × HasAccountAndDayInRange t × (explain_of_texts t ≡ e)
+ComesWithJournal e sub = (t : ExplainTexts) × (rows : List Row) × (sub ≡ Some (codes "explain", rows)) × HaveExplainTexts rows t × (is_account t.account ≡ true) × (explain_of_texts t ≡ e)
 
 -- the matches are of words that `serve` is given, of these numbers
 abbrev pub ComesWithOptions : Serve → Option (Text × List Row) → Type 0

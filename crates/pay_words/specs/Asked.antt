@@ -1,9 +1,12 @@
 -- What the words of the process ask for.
 use Rattle.std.specs.Prelude.{◌≡◌, ◌≢◌, ◌≤◌, ℕ, List, [], ◌∷◌, ◌++◌, codes, option_map, refl, Result, MatchResult, IsOkAnd}
-use Rattle.std.specs.Prelude.{◌⊎◌, ⊤, true, false, Some, None, IfSome, if◌then◌else◌}
+use Rattle.std.specs.Prelude.{◌⊎◌, ⊤, true, false, Some, None, IfSome, is_some, if◌then◌else◌}
 use Rattle.std.specs.Str.{bytes_eq, chars}
 use Rattle.std.specs.String.{string_bytes}
 use Rattle.clap.specs.Walk.{texts}
+use Rattle.pay_dates.specs.Words.{day_of_text}
+use Rattle.pay_dates.proofs.OnLiterals.{day_on_literals}
+use Rattle.pay_day.specs.Words.{IsDay}
 use Rattle.pay_words.specs.declared.words.Job.{Job}
 use Rattle.pay_words.specs.declared.words.Job.TheVariants.{Run as RunJob, Check as CheckJob, Statement as StatementJob, Explain as ExplainJob, Replay, Serve as ServeJob, Stay as StayJob, Audit as AuditJob, Rebuild}
 use Rattle.pay_words.specs.declared.words.RunWords.{RunWords}
@@ -16,21 +19,21 @@ use Rattle.pay_words.specs.declared.words.Service.{Service}
 use Rattle.pay_words.specs.declared.words.AuditWords.{AuditWords}
 use Rattle.pay_words.specs.declared.words.WordsFault.{WordsFault}
 use Rattle.pay_words.specs.declared.words.WordsFault.TheVariants.{Help, Version, Usage, Memory}
-use Rattle.pay_words.specs.declared.limits.TheConstants.{MOST_ACCOUNT, FIRST_DAY, LAST_DAY, MOST_PORT, MOST_SERVED_LANES, MOST_STAYING_LANES, MOST_SHARDS, MOST_SESSIONS, MOST_AHEAD}
+use Rattle.pay_words.specs.declared.limits.TheConstants.{MOST_ACCOUNT, MOST_PORT, MOST_SERVED_LANES, MOST_STAYING_LANES, MOST_SHARDS, MOST_SESSIONS, MOST_AHEAD}
 pub use Rattle.pay_words.specs.OneWord.{Text, Word, value, dashes, call_for_help, call_for_version, option, word_kind}
-pub use Rattle.pay_words.specs.OneWord.{Reader, any_text, is_account, is_day, number_of}
+pub use Rattle.pay_words.specs.OneWord.{Reader, any_text, is_account, number_of}
 pub use Rattle.pay_words.specs.Options.{HasNoHyphen}
 use Rattle.pay_words.specs.Options.{Part, Said, StandApart, all_of, all_said, help_wanted, not_taken, plain, apart, joined, plain_words, values_of, words_of_parts}
 use Rattle.pay_words.specs.Options.{port_option, lanes_option, shards_option, sessions_option, close_option, control_option, ahead_option, refused_option, greeting_option, journal_option, sync_option, ledger_option, early_option}
 use Rattle.pay_words.specs.Options.{lint_option, against_option, after_option, week_option}
 use Rattle.pay_words.specs.Audit.{AreAuditParts, Audit, audit_grammar}
-use Rattle.pay_words.specs.Check.{AreCheckParts, Check, CheckTexts, HasAfterInRange, check_grammar, check_of_texts, has_against}
-use Rattle.pay_words.specs.Explain.{AreExplainParts, Explain, ExplainTexts, HasAccountAndDayInRange, explain_grammar, explain_of_texts}
+use Rattle.pay_words.specs.Check.{AreCheckParts, Check, CheckTexts, check_grammar, check_of_texts, has_against, may_check}
+use Rattle.pay_words.specs.Explain.{AreExplainParts, Explain, ExplainTexts, explain_grammar, explain_of_texts}
 use Rattle.pay_words.specs.Greeting.{is_greeting}
 use Rattle.pay_words.specs.Rebuild.{rebuild_grammar}
 use Rattle.pay_words.specs.Run.{AreRunParts, Run, first_given, has_journal, is_given, run_grammar}
 use Rattle.pay_words.specs.Serve.{AreInRange, ArePartsOf, Serve, ServeTexts, is_whole, last_port, numbers_of, serve_grammar}
-use Rattle.pay_words.specs.Statement.{AreStatementParts, HasNumbersInRange, Statement, StatementTexts, statement_grammar, statement_of_texts}
+use Rattle.pay_words.specs.Statement.{AreStatementParts, Statement, StatementTexts, statement_grammar, statement_of_texts}
 
 -- ---- the words of a program that takes values alone, and help
 
@@ -139,21 +142,23 @@ statement_asked (all_of parts) = statement_of (plain_words parts) (values_of jou
 statement_asked help_wanted = help_asked
 statement_asked not_taken = usage
 
--- four values, one journal, and whether the flag was given
-abbrev pub explain_of : List Text → List Text → List Text → Asked
-explain_of (fares ∷ zone ∷ account ∷ day ∷ []) (j ∷ []) w = explain (explain_of_texts (record {
+-- four values, one journal, and what each other option was given
+abbrev pub explain_of : List Text → List Text → List Text → List Text → Asked
+explain_of (fares ∷ zone ∷ account ∷ day ∷ []) (j ∷ []) l w = explain (explain_of_texts (record {
   fares = fares;
   zone = zone;
   account = account;
   day = day;
   journal = j;
+  ledger = first_given l;
   week = is_given w;
 }))
-explain_of _ _ _ = usage
+explain_of _ _ _ _ = usage
 
 -- `explain FARES ZONE ACCOUNT DAY` and its options
 abbrev pub explain_asked : Said → Asked
-explain_asked (all_of parts) = explain_of (plain_words parts) (values_of journal_option parts) (values_of week_option parts)
+explain_asked (all_of parts) = explain_of (plain_words parts) (values_of journal_option parts) (values_of ledger_option parts)
+    (values_of week_option parts)
 explain_asked help_wanted = help_asked
 explain_asked not_taken = usage
 
@@ -240,11 +245,13 @@ abbrev pub words_ask : List Text → Asked
 words_ask (name ∷ program ∷ rest) = program_asked program rest
 words_ask _ = usage
 
--- a service ends or stays, a run without a journal brings no lines to the disk, and days up to one are compared with
--- another fare file alone
+-- a service ends or stays, a run without a journal brings no lines to the disk, a day is one, and days up to one are
+-- compared with another fare file alone
 abbrev pub allowed : Asked → Asked
 allowed (run r) = if has_journal r then run r else usage
-allowed (check c) = if has_against c then check c else usage
+allowed (check c) = if may_check c then check c else usage
+allowed (statement s) = if is_some s.day then statement s else usage
+allowed (explain e) = if is_some e.day then explain e else usage
 allowed (serve s) = if is_whole s then serve s else usage
 allowed what = what
 
@@ -272,7 +279,7 @@ check_job w = record {
   fares = w.fares.now;
   lints = w.lints;
   against = option_map (λ s. s.now) w.against;
-  after = w.after;
+  after = option_map Some w.after;
 }
 
 abbrev pub statement_job : StatementWords → Statement
@@ -280,7 +287,7 @@ statement_job w = record {
   fares = w.fares.now;
   zone = w.zone.now;
   account = w.account;
-  day = w.day;
+  day = Some w.day;
   journal = option_map (λ s. s.now) w.journal;
 }
 
@@ -289,8 +296,9 @@ explain_job w = record {
   fares = w.fares.now;
   zone = w.zone.now;
   account = w.account;
-  day = w.day;
+  day = Some w.day;
   journal = w.journal.now;
+  ledger = option_map (λ s. s.now) w.ledger;
   week = w.week;
 }
 
@@ -302,7 +310,7 @@ served_job w = record {
   lanes = w.lanes;
   shards = w.shards;
   sessions = Some w.sessions;
-  close = Some w.close;
+  close = Some (Some w.close);
   control = None;
   ahead = None;
   refused = None;
@@ -339,7 +347,7 @@ service_values w = record {
   lanes = w.lanes;
   shards = w.shards;
   sessions = w.sessions;
-  close = w.close;
+  close = option_map (λ s. day_of_text s.now) w.close;
   control = w.control;
   ahead = w.ahead;
   refused = option_map (λ s. s.now) w.refused;
@@ -372,20 +380,20 @@ job_asked (Rebuild w) = rebuild w.fares.now w.ledger.now
 abbrev pub AreRunWords : Run → List Text → Type 0
 AreRunWords r words = (parts : List Part) × (words ≡ codes "run" ∷ words_of_parts parts) × AreRunParts r parts
 
--- the words of `check` do; a number may be spelled in several ways
+-- the words of `check` do; a number or a day may be spelled in several ways
 abbrev pub AreCheckWords : Check → List Text → Type 0
 AreCheckWords c words = (t : CheckTexts) × (parts : List Part) × (words ≡ codes "check" ∷ words_of_parts parts)
-    × AreCheckParts t parts × HasAfterInRange t × (check_of_texts t ≡ c)
+    × AreCheckParts t parts × (check_of_texts t ≡ c)
 
 -- the words of `statement` do
 abbrev pub AreStatementWords : Statement → List Text → Type 0
 AreStatementWords s words = (t : StatementTexts) × (parts : List Part) × (words ≡ codes "statement" ∷ words_of_parts parts)
-    × AreStatementParts t parts × HasNumbersInRange t × (statement_of_texts t ≡ s)
+    × AreStatementParts t parts × (is_account t.account ≡ true) × (statement_of_texts t ≡ s)
 
 -- the words of `explain` do
 abbrev pub AreExplainWords : Explain → List Text → Type 0
 AreExplainWords e words = (t : ExplainTexts) × (parts : List Part) × (words ≡ codes "explain" ∷ words_of_parts parts)
-    × AreExplainParts t parts × HasAccountAndDayInRange t × (explain_of_texts t ≡ e)
+    × AreExplainParts t parts × (is_account t.account ≡ true) × (explain_of_texts t ≡ e)
 
 -- the words of `serve` do
 abbrev pub AreServeWords : Serve → List Text → Type 0
@@ -413,13 +421,12 @@ AreJobWords (Rebuild w) words = words ≡ codes "rebuild" ∷ w.fares.now ∷ w.
 -- greeting is one, where it has any
 abbrev pub IsJobInRange : Job → Type 0
 IsJobInRange (RunJob w) = has_journal (run_job w) ≡ true
-IsJobInRange (CheckJob w) = (has_against (check_job w) ≡ true) × IfSome w.after (λ day. (FIRST_DAY ≤ day) × (day ≤ LAST_DAY))
-IsJobInRange (StatementJob w) = (1 ≤ w.account) × (w.account ≤ MOST_ACCOUNT) × (FIRST_DAY ≤ w.day) × (w.day ≤ LAST_DAY)
-IsJobInRange (ExplainJob w) = (1 ≤ w.account) × (w.account ≤ MOST_ACCOUNT) × (FIRST_DAY ≤ w.day) × (w.day ≤ LAST_DAY)
+IsJobInRange (CheckJob w) = (has_against (check_job w) ≡ true) × IfSome w.after IsDay
+IsJobInRange (StatementJob w) = (1 ≤ w.account) × (w.account ≤ MOST_ACCOUNT) × IsDay w.day
+IsJobInRange (ExplainJob w) = (1 ≤ w.account) × (w.account ≤ MOST_ACCOUNT) × IsDay w.day
 IsJobInRange (Replay w) = texts w.files.items ≢ []
 IsJobInRange (ServeJob w) = (1 ≤ w.port) × (1 ≤ w.lanes) × (w.lanes ≤ MOST_SERVED_LANES) × (last_port w.port w.lanes ≤ MOST_PORT)
-    × (1 ≤ w.shards) × (w.shards ≤ MOST_SHARDS) × (1 ≤ w.sessions) × (w.sessions ≤ MOST_SESSIONS)
-    × (FIRST_DAY ≤ w.close) × (w.close ≤ LAST_DAY)
+    × (1 ≤ w.shards) × (w.shards ≤ MOST_SHARDS) × (1 ≤ w.sessions) × (w.sessions ≤ MOST_SESSIONS) × IsDay w.close
 IsJobInRange (StayJob w) = (1 ≤ w.port) × (1 ≤ w.control) × (w.control ≢ w.port) × (1 ≤ w.lanes) × (w.lanes ≤ MOST_STAYING_LANES)
     × (1 ≤ w.shards) × (w.shards ≤ MOST_SHARDS) × IfSome w.ahead (λ s. s ≤ MOST_AHEAD)
     × IfSome w.greeting (λ text. is_greeting text.now ≡ true)
@@ -465,24 +472,25 @@ RunIsTaken words result = (name : Text) (r : Run) (parts : List Part) → words 
     → IsJobOrMemory (run r) result
 
 -- one word with no hyphen before it, and options at most once each, in whatever order, are those of `check`, where
--- the day is in its range, and comes with another fare file
+-- the day is one, and comes with another fare file
 abbrev pub CheckIsTaken : List Text → Result Job WordsFault → Type 0
 CheckIsTaken words result = (name : Text) (t : CheckTexts) (parts : List Part) → words ≡ name ∷ codes "check" ∷ words_of_parts parts
-    → AreCheckParts t parts → StandApart parts → HasNoHyphen t.fares → HasAfterInRange t → has_against (check_of_texts t) ≡ true
+    → AreCheckParts t parts → StandApart parts → HasNoHyphen t.fares → may_check (check_of_texts t) ≡ true
     → IsJobOrMemory (check (check_of_texts t)) result
 
--- two words with no hyphen before them, two numbers in their ranges and perhaps the option, anywhere, are
--- those of `statement`
+-- two words with no hyphen before them, an account, a day and perhaps the option, anywhere, are those of `statement`
 abbrev pub StatementIsTaken : List Text → Result Job WordsFault → Type 0
 StatementIsTaken words result = (name : Text) (t : StatementTexts) (parts : List Part) → words ≡ name ∷ codes "statement" ∷ words_of_parts parts
-    → AreStatementParts t parts → StandApart parts → HasNoHyphen t.fares → HasNoHyphen t.zone → HasNumbersInRange t
+    → AreStatementParts t parts → StandApart parts → HasNoHyphen t.fares → HasNoHyphen t.zone → is_account t.account ≡ true
+    → is_some (day_of_text t.day) ≡ true
     → IsJobOrMemory (statement (statement_of_texts t)) result
 
--- two words with no hyphen before them, two numbers in their ranges, the journal that is needed and perhaps the flag,
+-- two words with no hyphen before them, an account, a day, the journal that is needed and perhaps the other options,
 -- anywhere, are those of `explain`
 abbrev pub ExplainIsTaken : List Text → Result Job WordsFault → Type 0
 ExplainIsTaken words result = (name : Text) (t : ExplainTexts) (parts : List Part) → words ≡ name ∷ codes "explain" ∷ words_of_parts parts
-    → AreExplainParts t parts → StandApart parts → HasNoHyphen t.fares → HasNoHyphen t.zone → HasAccountAndDayInRange t
+    → AreExplainParts t parts → StandApart parts → HasNoHyphen t.fares → HasNoHyphen t.zone → is_account t.account ≡ true
+    → is_some (day_of_text t.day) ≡ true
     → IsJobOrMemory (explain (explain_of_texts t)) result
 
 -- three words or more with no hyphen before them are the values of `replay`
@@ -634,26 +642,35 @@ against_row = refl
 
 -- options before and after the value
 all_check_row : row (codes "check" ∷ codes "--after=019731" ∷ codes "a" ∷ codes "--lint" ∷ codes "--against=-b" ∷ [])
-    ≡ check (record { fares = codes "a"; lints = true; against = Some (codes "-b"); after = Some 19_731 })
-unfolding chars
+    ≡ check (record { fares = codes "a"; lints = true; against = Some (codes "-b"); after = Some (Some 19_731) })
+unfolding chars day_on_literals
 all_check_row = refl
 
 -- a day comes with another fare file
 after_row : row (check_words (codes "--after" ∷ codes "19731" ∷ [])) ≡ usage
-unfolding chars
+unfolding chars day_on_literals
 after_row = refl
 
 after_3_row : row (check_words (codes "--against" ∷ codes "b" ∷ codes "--after" ∷ codes "3" ∷ [])) ≡ usage
-unfolding chars
+unfolding chars day_on_literals
 after_3_row = refl
 
 after_4_row : row (check_words (codes "--against" ∷ codes "b" ∷ codes "--after" ∷ codes "4" ∷ []))
-    ≡ check (record plain_check { against = Some (codes "b"); after = Some 4 })
-unfolding chars
+    ≡ check (record plain_check { against = Some (codes "b"); after = Some (Some 4) })
+unfolding chars day_on_literals
 after_4_row = refl
 
+after_date_row : row (check_words (codes "--against" ∷ codes "b" ∷ codes "--after=2024-01-09" ∷ []))
+    ≡ check (record plain_check { against = Some (codes "b"); after = Some (Some 19_731) })
+unfolding chars day_on_literals
+after_date_row = refl
+
+after_no_day_row : row (check_words (codes "--against" ∷ codes "b" ∷ codes "--after=today" ∷ [])) ≡ usage
+unfolding chars day_on_literals
+after_no_day_row = refl
+
 after_beyond_row : row (check_words (codes "--against" ∷ codes "b" ∷ codes "--after" ∷ codes "50001" ∷ [])) ≡ usage
-unfolding chars
+unfolding chars day_on_literals
 after_beyond_row = refl
 
 -- each is given once, and the flag has no value
@@ -678,15 +695,15 @@ abbrev statement_words : Text → Text → List Text
 statement_words account day = codes "statement" ∷ codes "a" ∷ codes "b" ∷ account ∷ day ∷ []
 
 abbrev statement_of_7 : ℕ → Statement
-statement_of_7 day = record { fares = codes "a"; zone = codes "b"; account = 7; day = day; journal = None }
+statement_of_7 day = record { fares = codes "a"; zone = codes "b"; account = 7; day = Some day; journal = None }
 
 statement_row : row (statement_words (codes "7") (codes "19730")) ≡ statement (statement_of_7 19_730)
-unfolding chars
+unfolding chars day_on_literals
 statement_row = refl
 
 statement_journal_row : row (codes "statement" ∷ codes "a" ∷ codes "b" ∷ codes "7" ∷ codes "--journal" ∷ codes "j" ∷ codes "19730" ∷ [])
     ≡ statement (record (statement_of_7 19_730) { journal = Some (codes "j") })
-unfolding chars
+unfolding chars day_on_literals
 statement_journal_row = refl
 
 -- which is only read
@@ -720,13 +737,21 @@ replay_help_row : row (codes "replay" ∷ codes "a" ∷ codes "b" ∷ codes "j" 
 unfolding chars
 replay_help_row = refl
 
+statement_date_row : row (statement_words (codes "7") (codes "2024-01-08")) ≡ statement (statement_of_7 19_730)
+unfolding chars day_on_literals
+statement_date_row = refl
+
+statement_short_date_row : row (statement_words (codes "7") (codes "2024-1-8")) ≡ usage
+unfolding chars day_on_literals
+statement_short_date_row = refl
+
 greatest_account_row : row (statement_words (codes "4294967295") (codes "50000")) ≡ statement (record (statement_of_7 50_000) { account = 4_294_967_295 })
-unfolding chars
+unfolding chars day_on_literals
 greatest_account_row = refl
 
 -- a number may have a plus and zeros before it
 plus_row : row (statement_words (codes "+7") (codes "004")) ≡ statement (statement_of_7 4)
-unfolding chars
+unfolding chars day_on_literals
 plus_row = refl
 
 account_0_row : row (statement_words (codes "0") (codes "19730")) ≡ usage
@@ -738,11 +763,11 @@ unfolding chars
 account_beyond_row = refl
 
 day_3_row : row (statement_words (codes "7") (codes "3")) ≡ usage
-unfolding chars
+unfolding chars day_on_literals
 day_3_row = refl
 
 day_beyond_row : row (statement_words (codes "7") (codes "50001")) ≡ usage
-unfolding chars
+unfolding chars day_on_literals
 day_beyond_row = refl
 
 no_number_row : row (statement_words (codes "x") (codes "19730")) ≡ usage
@@ -757,6 +782,11 @@ one_more_row : row (codes "statement" ∷ codes "a" ∷ codes "b" ∷ codes "7" 
 unfolding chars
 one_more_row = refl
 
+-- help may be called for after a word that is no day
+no_day_help_row : row (statement_words (codes "7") (codes "x") ++ codes "-h" ∷ []) ≡ help_asked
+unfolding chars
+no_day_help_row = refl
+
 -- a number that is refused comes before a call for help after it
 refused_before_help_row : row (codes "statement" ∷ codes "a" ∷ codes "b" ∷ codes "0" ∷ codes "-h" ∷ []) ≡ usage
 unfolding chars
@@ -770,21 +800,21 @@ abbrev explain_words : Text → Text → List Text → List Text
 explain_words account day rest = codes "explain" ∷ codes "a" ∷ codes "b" ∷ account ∷ day ∷ rest
 
 abbrev day_of_7 : Explain
-day_of_7 = record { fares = codes "a"; zone = codes "b"; account = 7; day = 19_730; journal = codes "j"; week = false }
+day_of_7 = record { fares = codes "a"; zone = codes "b"; account = 7; day = Some 19_730; journal = codes "j"; ledger = None; week = false }
 
 explain_row : row (explain_words (codes "7") (codes "19730") (codes "--journal" ∷ codes "j" ∷ [])) ≡ explain day_of_7
-unfolding chars
+unfolding chars day_on_literals
 explain_row = refl
 
 -- options before, between and after the values
 all_explain_row : row (codes "explain" ∷ codes "--week" ∷ codes "a" ∷ codes "b" ∷ codes "--journal=-j" ∷ codes "+7" ∷ codes "--" ∷ codes "019730" ∷ [])
     ≡ explain (record day_of_7 { journal = codes "-j"; week = true })
-unfolding chars
+unfolding chars day_on_literals
 all_explain_row = refl
 
 explain_last_row : row (explain_words (codes "4294967295") (codes "50000") (codes "--journal=j" ∷ codes "--week" ∷ []))
-    ≡ explain (record day_of_7 { account = 4_294_967_295; day = 50_000; week = true })
-unfolding chars
+    ≡ explain (record day_of_7 { account = 4_294_967_295; day = Some 50_000; week = true })
+unfolding chars day_on_literals
 explain_last_row = refl
 
 -- a journal is needed, and given once
@@ -810,17 +840,36 @@ unfolding chars
 explain_account_0_row = refl
 
 explain_day_3_row : row (explain_words (codes "7") (codes "3") (codes "--journal=j" ∷ [])) ≡ usage
-unfolding chars
+unfolding chars day_on_literals
 explain_day_3_row = refl
 
 explain_no_day_row : row (codes "explain" ∷ codes "a" ∷ codes "b" ∷ codes "7" ∷ codes "--journal=j" ∷ []) ≡ usage
 unfolding chars
 explain_no_day_row = refl
 
--- what was posted is not asked
-explain_ledger_row : row (explain_words (codes "7") (codes "19730") (codes "--journal=j" ∷ codes "--ledger=l" ∷ [])) ≡ usage
-unfolding chars
+-- a ledger may be named, once
+explain_ledger_row : row (explain_words (codes "7") (codes "19730") (codes "--journal=j" ∷ codes "--ledger" ∷ codes "l" ∷ []))
+    ≡ explain (record day_of_7 { ledger = Some (codes "l") })
+unfolding chars day_on_literals
 explain_ledger_row = refl
+
+explain_ledger_twice_row : row (explain_words (codes "7") (codes "19730") (codes "--journal=j" ∷ codes "--ledger=l" ∷ codes "--ledger=l" ∷ [])) ≡ usage
+unfolding chars
+explain_ledger_twice_row = refl
+
+-- which closes nothing
+explain_early_row : row (explain_words (codes "7") (codes "19730") (codes "--journal=j" ∷ codes "--ledger=l" ∷ codes "--early" ∷ [])) ≡ usage
+unfolding chars
+explain_early_row = refl
+
+-- a day is given by its date too
+explain_date_row : row (explain_words (codes "7") (codes "2024-01-08") (codes "--journal=j" ∷ [])) ≡ explain day_of_7
+unfolding chars day_on_literals
+explain_date_row = refl
+
+explain_no_date_row : row (explain_words (codes "7") (codes "2023-02-29") (codes "--journal=j" ∷ [])) ≡ usage
+unfolding chars day_on_literals
+explain_no_date_row = refl
 
 explain_help_row : row (codes "explain" ∷ codes "a" ∷ codes "--week" ∷ codes "-h" ∷ []) ≡ help_asked
 unfolding chars
@@ -839,7 +888,7 @@ example = record {
   lanes = 2;
   shards = 4;
   sessions = Some 1;
-  close = Some 19_730;
+  close = Some (Some 19_730);
   control = None;
   ahead = None;
   refused = None;
@@ -860,16 +909,24 @@ abbrev options_row : List Text → List Text
 options_row rest = codes "--lanes" ∷ codes "2" ∷ codes "--shards=4" ∷ codes "--sessions" ∷ codes "1" ∷ codes "--close=19730" ∷ rest
 
 serve_row : row (codes "serve" ∷ codes "a" ∷ codes "b" ∷ codes "--port" ∷ codes "9000" ∷ options_row []) ≡ serve example
-unfolding chars
+unfolding chars day_on_literals
 serve_row = refl
+
+close_date_row : row (serve_words (codes "--sessions=1" ∷ codes "--close" ∷ codes "2024-01-08" ∷ [])) ≡ serve example
+unfolding chars day_on_literals
+close_date_row = refl
+
+close_no_day_row : row (serve_words (codes "--sessions=1" ∷ codes "--close=2024-13-08" ∷ [])) ≡ usage
+unfolding chars day_on_literals
+close_no_day_row = refl
 
 serve_files_row : row (codes "serve" ∷ codes "a" ∷ codes "b" ∷ codes "--ledger=l" ∷ codes "--port=9000" ∷ options_row (codes "--journal" ∷ codes "j" ∷ []))
     ≡ serve (record example { journal = Some (codes "j"); ledger = Some (codes "l") })
-unfolding chars
+unfolding chars day_on_literals
 serve_files_row = refl
 
 serve_early_row : row (codes "serve" ∷ codes "a" ∷ codes "--early" ∷ codes "b" ∷ codes "--port=9000" ∷ options_row []) ≡ serve (record example { early = true })
-unfolding chars
+unfolding chars day_on_literals
 serve_early_row = refl
 
 -- `serve` has no `--sync`
@@ -884,11 +941,11 @@ usual_order_row t = refl
 
 -- options before, between and after the values
 mixed_row : row (codes "serve" ∷ codes "--port=9000" ∷ codes "a" ∷ options_row (codes "b" ∷ [])) ≡ serve example
-unfolding chars
+unfolding chars day_on_literals
 mixed_row = refl
 
 serve_dashes_row : row (codes "serve" ∷ options_row (codes "--port" ∷ codes "9000" ∷ codes "--" ∷ codes "a" ∷ codes "b" ∷ [])) ≡ serve example
-unfolding chars
+unfolding chars day_on_literals
 serve_dashes_row = refl
 
 -- an option is given once
@@ -912,12 +969,12 @@ one_value_row = refl
 -- two lanes have the ports 65,534 and 65,535
 last_port_row : row (codes "serve" ∷ codes "a" ∷ codes "b" ∷ codes "--port" ∷ codes "65534" ∷ options_row [])
     ≡ serve (record example { port = 65_534 })
-unfolding chars
+unfolding chars day_on_literals
 last_port_row = refl
 
 -- and none has 65,536
 beyond_ports_row : row (codes "serve" ∷ codes "a" ∷ codes "b" ∷ codes "--port" ∷ codes "65535" ∷ options_row []) ≡ usage
-unfolding chars
+unfolding chars day_on_literals
 beyond_ports_row = refl
 
 port_0_row : row (codes "serve" ∷ codes "a" ∷ codes "b" ∷ codes "--port" ∷ codes "0" ∷ options_row []) ≡ usage
@@ -1043,11 +1100,11 @@ stay_ahead_twice_row = refl
 
 -- a service that ends has no such limit, also where it has journals and a ledger
 ahead_of_an_end_row : row (serve_words (codes "--sessions=1" ∷ codes "--close=19730" ∷ codes "--ahead=60" ∷ [])) ≡ usage
-unfolding chars
+unfolding chars day_on_literals
 ahead_of_an_end_row = refl
 
 ahead_of_an_end_with_files_row : row (serve_words (codes "--sessions=1" ∷ codes "--close=19730" ∷ codes "--ahead=60" ∷ files_words)) ≡ usage
-unfolding chars
+unfolding chars day_on_literals
 ahead_of_an_end_with_files_row = refl
 
 -- nor is there one without either form
@@ -1070,7 +1127,7 @@ stay_refused_twice_row = refl
 
 -- a service that ends keeps none
 refused_of_an_end_row : row (serve_words (codes "--sessions=1" ∷ codes "--close=19730" ∷ codes "--refused=no" ∷ [])) ≡ usage
-unfolding chars
+unfolding chars day_on_literals
 refused_of_an_end_row = refl
 
 refused_of_run_row : row (codes "run" ∷ codes "a" ∷ codes "b" ∷ codes "--refused=no" ∷ []) ≡ usage
@@ -1102,7 +1159,7 @@ stay_greeting_stop_row = refl
 
 -- a service that ends has none, whatever it is
 greeting_of_an_end_row : row (serve_words (codes "--sessions=1" ∷ codes "--close=19730" ∷ codes "--greeting=hi" ∷ [])) ≡ usage
-unfolding chars
+unfolding chars day_on_literals
 greeting_of_an_end_row = refl
 
 -- no other program has one

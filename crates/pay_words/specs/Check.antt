@@ -1,16 +1,18 @@
 -- What the words of `check` say.
-use Rattle.std.specs.Prelude.{◌≡◌, ◌||◌, ℕ, List, [], ◌∷◌, Bool, true, not, Option, IfSome, is_some, option_map}
-use Rattle.pay_words.specs.OneWord.{Text, is_day, number_of}
+use Rattle.std.specs.Prelude.{◌≡◌, ◌&&◌, ◌||◌, ℕ, List, [], ◌∷◌, Bool, true, not, Option, is_some, option_map}
+use Rattle.std.specs.Option.{option_map_or}
+use Rattle.pay_dates.specs.Words.{day_of_text}
+use Rattle.pay_words.specs.OneWord.{Text}
 use Rattle.pay_words.specs.Options.{AreParts, Grammar, Part, plain_words, values_of}
 use Rattle.pay_words.specs.Options.{fares_place, lint_option, against_option, after_option}
 use Rattle.pay_words.specs.Run.{flags, listed}
 
--- what `check` is asked for
+-- what `check` is asked for; a day that is given is none where its word names none
 pub record Check : Type 0 where
   pub fares : Text
   pub lints : Bool
   pub against : Option Text
-  pub after : Option ℕ
+  pub after : Option (Option ℕ)
 
 -- the words that `check` is given
 pub record CheckTexts : Type 0 where
@@ -30,12 +32,8 @@ check_of_texts t = record {
   fares = t.fares;
   lints = t.lints;
   against = t.against;
-  after = option_map number_of t.after;
+  after = option_map day_of_text t.after;
 }
-
--- the day is in its range, where one is given
-abbrev pub HasAfterInRange : CheckTexts → Type 0
-HasAfterInRange t = IfSome t.after (λ word. is_day word ≡ true)
 
 -- these parts are a value, and each option at most once
 abbrev pub AreCheckParts : CheckTexts → List Part → Type 0
@@ -46,3 +44,10 @@ AreCheckParts t parts = AreParts check_grammar parts × (plain_words parts ≡ t
 -- days up to one are compared where there is another fare file
 abbrev pub has_against : Check → Bool
 has_against c = not (is_some c.after) || is_some c.against
+
+-- a day that is given is one
+abbrev pub has_after_day : Check → Bool
+has_after_day c = option_map_or is_some c.after true
+
+abbrev pub may_check : Check → Bool
+may_check c = has_after_day c && has_against c

@@ -14,14 +14,15 @@ use Rattle.clap.specs.declared.parser.matches.ArgMatches.{ArgMatches}
 use Rattle.clap.specs.declared.parser.matches.Found.{Found}
 use Rattle.pay_words.specs.declared.words.WordsFault.{WordsFault}
 use Rattle.pay_words.specs.declared.words.WordsFault.TheVariants.{Help, Version, Usage, Memory}
-use Rattle.pay_words.specs.declared.limits.TheConstants.{MOST_ACCOUNT, FIRST_DAY, LAST_DAY, MOST_PORT, MOST_SERVED_LANES, MOST_SHARDS, MOST_SESSIONS, MOST_AHEAD}
+use Rattle.pay_words.specs.declared.limits.TheConstants.{MOST_ACCOUNT, MOST_PORT, MOST_SERVED_LANES, MOST_SHARDS, MOST_SESSIONS, MOST_AHEAD}
 use Rattle.pay_words.specs.Asked.{version_line}
 use Rattle.pay_words.specs.Audit.{Audit}
-use Rattle.pay_words.specs.Check.{Check, CheckTexts, HasAfterInRange, check_of_texts}
-use Rattle.pay_words.specs.Explain.{Explain, ExplainTexts, HasAccountAndDayInRange, explain_of_texts}
+use Rattle.pay_words.specs.Check.{Check, CheckTexts, check_of_texts}
+use Rattle.pay_words.specs.Explain.{Explain, ExplainTexts, explain_of_texts}
+use Rattle.pay_words.specs.OneWord.{is_account}
 use Rattle.pay_words.specs.Run.{Run}
 use Rattle.pay_words.specs.Serve.{AreInRange, Serve, ServeTexts, numbers_of}
-use Rattle.pay_words.specs.Statement.{HasNumbersInRange, Statement, StatementTexts, statement_of_texts}
+use Rattle.pay_words.specs.Statement.{Statement, StatementTexts, statement_of_texts}
 
 -- a word that has to be there
 abbrev pub required_word : Text → Rule
@@ -69,7 +70,7 @@ run_app = with_ledger (with_rule (with_rule (with_fares_and_zone (new_app (codes
 
 -- the options of `check` that compare two fare files
 abbrev pub with_against : App → App
-with_against app = with_rule (with_rule app (text_option (codes "against"))) (optional_number (codes "after") FIRST_DAY LAST_DAY)
+with_against app = with_rule (with_rule app (text_option (codes "against"))) (text_option (codes "after"))
 
 -- `check FARES [--lint] [--against OLD [--after DAY]]`
 abbrev pub check_app : App
@@ -78,15 +79,16 @@ check_app = with_against (with_rule (with_rule (new_app (codes "check")) (requir
 -- the words FARES, ZONE, ACCOUNT and DAY
 abbrev pub with_account_and_day : App → App
 with_account_and_day app = with_rule (with_rule (with_fares_and_zone app)
-    (required_number (codes "ACCOUNT") 1 MOST_ACCOUNT)) (required_number (codes "DAY") FIRST_DAY LAST_DAY)
+    (required_number (codes "ACCOUNT") 1 MOST_ACCOUNT)) (required_word (codes "DAY"))
 
 -- `statement FARES ZONE ACCOUNT DAY [--journal FILE]`
 abbrev pub statement_app : App
 statement_app = with_rule (with_account_and_day (new_app (codes "statement"))) (text_option (codes "journal"))
 
--- `explain FARES ZONE ACCOUNT DAY --journal PATH [--week]`
+-- `explain FARES ZONE ACCOUNT DAY --journal PATH [--ledger FILE] [--week]`
 abbrev pub explain_app : App
-explain_app = with_rule (with_rule (with_account_and_day (new_app (codes "explain"))) (required_text (codes "journal"))) (flag_option (codes "week"))
+explain_app = with_rule (with_rule (with_rule (with_account_and_day (new_app (codes "explain"))) (required_text (codes "journal")))
+    (text_option (codes "ledger"))) (flag_option (codes "week"))
 
 -- `replay FARES ZONE FILE..`
 abbrev pub replay_app : App
@@ -101,7 +103,7 @@ with_numbers app = with_rule (with_rule (with_rule app
 -- and those of one form alone
 abbrev pub with_end : App → App
 with_end app = with_rule (with_rule (with_rule (with_rule (with_rule (with_rule app
-    (optional_number (codes "sessions") 1 MOST_SESSIONS)) (optional_number (codes "close") FIRST_DAY LAST_DAY))
+    (optional_number (codes "sessions") 1 MOST_SESSIONS)) (text_option (codes "close")))
     (optional_number (codes "control") 1 MOST_PORT)) (optional_number (codes "ahead") 0 MOST_AHEAD)) (text_option (codes "refused")))
     (text_option (codes "greeting"))
 
@@ -151,51 +153,53 @@ HasRun f r = (first_value f (codes "FARES") ≡ Some r.fares) × (first_value f 
 -- these rows have the words that `check` is given
 abbrev pub HaveCheckTexts : List Row → CheckTexts → Type 0
 HaveCheckTexts rows t = (first_of (codes "FARES") rows ≡ Some t.fares) × (one_of (codes "lint") rows ≡ Some (flag_text t.lints))
-    × (first_of (codes "against") rows ≡ t.against) × (one_of (codes "after") rows ≡ t.after)
+    × (first_of (codes "against") rows ≡ t.against) × (first_of (codes "after") rows ≡ t.after)
 
--- the matches are those of `check` with these values, and a word in its range for the day
+-- the matches are those of `check` with these values
 abbrev pub GivesCheck : ArgMatches → Check → Type 0
 GivesCheck m c = (t : CheckTexts) × (rows : List Row) × (subcommand_rows_of m ≡ Some (codes "check", rows))
-    × HaveCheckTexts rows t × HasAfterInRange t × (check_of_texts t ≡ c)
+    × HaveCheckTexts rows t × (check_of_texts t ≡ c)
 
 -- the matches have the words that `check` is given
 abbrev pub HasCheckTexts : Found → CheckTexts → Type 0
 HasCheckTexts f t = (first_value f (codes "FARES") ≡ Some t.fares) × (one_text f (codes "lint") ≡ Some (flag_text t.lints))
-    × (first_value f (codes "against") ≡ t.against) × (one_text f (codes "after") ≡ t.after)
+    × (first_value f (codes "against") ≡ t.against) × (first_value f (codes "after") ≡ t.after)
 
 -- these rows have the words that `statement` is given
 abbrev pub HaveStatementTexts : List Row → StatementTexts → Type 0
 HaveStatementTexts rows t = (first_of (codes "FARES") rows ≡ Some t.fares) × (first_of (codes "ZONE") rows ≡ Some t.zone)
-    × (one_of (codes "ACCOUNT") rows ≡ Some t.account) × (one_of (codes "DAY") rows ≡ Some t.day)
+    × (one_of (codes "ACCOUNT") rows ≡ Some t.account) × (first_of (codes "DAY") rows ≡ Some t.day)
     × (first_of (codes "journal") rows ≡ t.journal)
 
--- the matches are those of `statement` with these values, and words in their ranges for the numbers
+-- the matches are those of `statement` with these values, and an account in its range
 abbrev pub GivesStatement : ArgMatches → Statement → Type 0
 GivesStatement m s = (t : StatementTexts) × (rows : List Row) × (subcommand_rows_of m ≡ Some (codes "statement", rows))
-    × HaveStatementTexts rows t × HasNumbersInRange t × (statement_of_texts t ≡ s)
+    × HaveStatementTexts rows t × (is_account t.account ≡ true) × (statement_of_texts t ≡ s)
 
 -- the matches have the words that `statement` is given
 abbrev pub HasStatementTexts : Found → StatementTexts → Type 0
 HasStatementTexts f t = (first_value f (codes "FARES") ≡ Some t.fares) × (first_value f (codes "ZONE") ≡ Some t.zone)
-    × (one_text f (codes "ACCOUNT") ≡ Some t.account) × (one_text f (codes "DAY") ≡ Some t.day)
+    × (one_text f (codes "ACCOUNT") ≡ Some t.account) × (first_value f (codes "DAY") ≡ Some t.day)
     × (first_value f (codes "journal") ≡ t.journal)
 
 -- these rows have the words that `explain` is given
 abbrev pub HaveExplainTexts : List Row → ExplainTexts → Type 0
 HaveExplainTexts rows t = (first_of (codes "FARES") rows ≡ Some t.fares) × (first_of (codes "ZONE") rows ≡ Some t.zone)
-    × (one_of (codes "ACCOUNT") rows ≡ Some t.account) × (one_of (codes "DAY") rows ≡ Some t.day)
-    × (first_of (codes "journal") rows ≡ Some t.journal) × (one_of (codes "week") rows ≡ Some (flag_text t.week))
+    × (one_of (codes "ACCOUNT") rows ≡ Some t.account) × (first_of (codes "DAY") rows ≡ Some t.day)
+    × (first_of (codes "journal") rows ≡ Some t.journal) × (first_of (codes "ledger") rows ≡ t.ledger)
+    × (one_of (codes "week") rows ≡ Some (flag_text t.week))
 
--- the matches are those of `explain` with these values, and words in their ranges for the numbers
+-- the matches are those of `explain` with these values, and an account in its range
 abbrev pub GivesExplain : ArgMatches → Explain → Type 0
 GivesExplain m e = (t : ExplainTexts) × (rows : List Row) × (subcommand_rows_of m ≡ Some (codes "explain", rows))
-    × HaveExplainTexts rows t × HasAccountAndDayInRange t × (explain_of_texts t ≡ e)
+    × HaveExplainTexts rows t × (is_account t.account ≡ true) × (explain_of_texts t ≡ e)
 
 -- the matches have the words that `explain` is given
 abbrev pub HasExplainTexts : Found → ExplainTexts → Type 0
 HasExplainTexts f t = (first_value f (codes "FARES") ≡ Some t.fares) × (first_value f (codes "ZONE") ≡ Some t.zone)
-    × (one_text f (codes "ACCOUNT") ≡ Some t.account) × (one_text f (codes "DAY") ≡ Some t.day)
-    × (first_value f (codes "journal") ≡ Some t.journal) × (one_text f (codes "week") ≡ Some (flag_text t.week))
+    × (one_text f (codes "ACCOUNT") ≡ Some t.account) × (first_value f (codes "DAY") ≡ Some t.day)
+    × (first_value f (codes "journal") ≡ Some t.journal) × (first_value f (codes "ledger") ≡ t.ledger)
+    × (one_text f (codes "week") ≡ Some (flag_text t.week))
 
 -- the subcommand that the matches have, with its values and its files
 abbrev pub values_and_files : Text × List Row → Text × Option Text × Option Text × Option (List Text)
@@ -219,7 +223,7 @@ abbrev pub HaveServeTexts : List Row → ServeTexts → Type 0
 HaveServeTexts rows t = (first_of (codes "FARES") rows ≡ Some t.fares) × (first_of (codes "ZONE") rows ≡ Some t.zone)
     × (one_of (codes "port") rows ≡ Some t.port) × (one_of (codes "lanes") rows ≡ Some t.lanes)
     × (one_of (codes "shards") rows ≡ Some t.shards) × (one_of (codes "sessions") rows ≡ t.sessions)
-    × (one_of (codes "close") rows ≡ t.close) × (one_of (codes "control") rows ≡ t.control)
+    × (first_of (codes "close") rows ≡ t.close) × (one_of (codes "control") rows ≡ t.control)
     × (one_of (codes "ahead") rows ≡ t.ahead) × (first_of (codes "refused") rows ≡ t.refused)
     × (first_of (codes "greeting") rows ≡ t.greeting) × (first_of (codes "journal") rows ≡ t.journal)
     × (first_of (codes "ledger") rows ≡ t.ledger) × (one_of (codes "early") rows ≡ Some (flag_text t.early))
@@ -234,7 +238,7 @@ abbrev pub HasServeTexts : Found → ServeTexts → Type 0
 HasServeTexts f t = (first_value f (codes "FARES") ≡ Some t.fares) × (first_value f (codes "ZONE") ≡ Some t.zone)
     × (one_text f (codes "port") ≡ Some t.port) × (one_text f (codes "lanes") ≡ Some t.lanes)
     × (one_text f (codes "shards") ≡ Some t.shards) × (one_text f (codes "sessions") ≡ t.sessions)
-    × (one_text f (codes "close") ≡ t.close) × (one_text f (codes "control") ≡ t.control)
+    × (first_value f (codes "close") ≡ t.close) × (one_text f (codes "control") ≡ t.control)
     × (one_text f (codes "ahead") ≡ t.ahead) × (first_value f (codes "refused") ≡ t.refused)
     × (first_value f (codes "greeting") ≡ t.greeting) × (first_value f (codes "journal") ≡ t.journal)
     × (first_value f (codes "ledger") ≡ t.ledger) × (one_text f (codes "early") ≡ Some (flag_text t.early))

@@ -2,7 +2,7 @@
 use Rattle.std.specs.Prelude.{◌==◌, ℕ, List, [], ◌∷◌, codes, Bool, true, Option, Some, None, slice_get, if◌then◌else◌}
 use Rattle.std.specs.Str.{bytes_eq, chars}
 use Rattle.std.specs.Str.Parse.{digits_value, without_leading_plus}
-use Rattle.pay_words.specs.declared.limits.TheConstants.{MOST_ACCOUNT, FIRST_DAY, LAST_DAY, MOST_PORT, MOST_SERVED_LANES, MOST_SHARDS, MOST_SESSIONS, MOST_AHEAD}
+use Rattle.pay_words.specs.declared.limits.TheConstants.{MOST_ACCOUNT, MOST_PORT, MOST_SERVED_LANES, MOST_SHARDS, MOST_SESSIONS, MOST_AHEAD}
 use Rattle.clap.specs.ValueTests.{is_unsigned_in}
 
 abbrev pub Text : Type 0
@@ -53,9 +53,6 @@ any_text word = true
 -- perhaps a plus before them
 abbrev pub is_account : Reader
 is_account word = is_unsigned_in 1 MOST_ACCOUNT word
-
-abbrev pub is_day : Reader
-is_day word = is_unsigned_in FIRST_DAY LAST_DAY word
 
 abbrev pub is_port : Reader
 is_port word = is_unsigned_in 1 MOST_PORT word

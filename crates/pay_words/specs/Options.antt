@@ -3,7 +3,7 @@ use Rattle.std.specs.Prelude.{◌≡◌, List, [], ◌∷◌, ◌++◌, codes, B
 use Rattle.std.specs.Str.{bytes_eq}
 use Rattle.clap.specs.Lexer.{long_of}
 use Rattle.pay_words.specs.OneWord.{Reader, Text, Word, value, dashes, call_for_help, call_for_version, option, any_text, word_kind}
-use Rattle.pay_words.specs.OneWord.{is_account, is_ahead, is_day, is_lanes, is_port, is_sessions, is_shards}
+use Rattle.pay_words.specs.OneWord.{is_account, is_ahead, is_lanes, is_port, is_sessions, is_shards}
 
 -- ---- values in their places, and options
 
@@ -20,7 +20,7 @@ abbrev pub place_reader : Place → Reader
 place_reader fares_place = any_text
 place_reader zone_place = any_text
 place_reader account_place = is_account
-place_reader day_place = is_day
+place_reader day_place = any_text
 place_reader ledger_place = any_text
 
 -- an option, which has a value if it is no flag
@@ -94,7 +94,7 @@ reader_of port_option = is_port
 reader_of lanes_option = is_lanes
 reader_of shards_option = is_shards
 reader_of sessions_option = is_sessions
-reader_of close_option = is_day
+reader_of close_option = any_text
 reader_of control_option = is_port
 reader_of ahead_option = is_ahead
 reader_of refused_option = any_text
@@ -105,7 +105,7 @@ reader_of ledger_option = any_text
 reader_of early_option = is_flag_value
 reader_of lint_option = is_flag_value
 reader_of against_option = any_text
-reader_of after_option = is_day
+reader_of after_option = any_text
 reader_of week_option = is_flag_value
 
 -- what a program takes: values in these places, in order, and these options, in any
@@ -278,13 +278,15 @@ AreParts g (part ∷ rest) = IsPart g part × AreParts g rest
 abbrev pub HasNoHyphen : Text → Type 0
 HasNoHyphen word = slice_index word 0 ≢ 45
 
--- the value of an option may be a word of its own: a number does not begin with a hyphen
+-- the value of an option may be a word of its own where it begins with no hyphen, which no number does
 abbrev pub MayStandApart : Setting → Text → Type 0
+MayStandApart close_option word = HasNoHyphen word
 MayStandApart refused_option word = HasNoHyphen word
 MayStandApart greeting_option word = HasNoHyphen word
 MayStandApart journal_option word = HasNoHyphen word
 MayStandApart ledger_option word = HasNoHyphen word
 MayStandApart against_option word = HasNoHyphen word
+MayStandApart after_option word = HasNoHyphen word
 MayStandApart _ word = ⊤
 
 -- each value that is the next word after its option may be

@@ -1,14 +1,16 @@
 -- What the words of `serve` say.
 use Rattle.std.specs.Prelude.{◌≡◌, ◌+◌, ◌-◌, ◌==◌, ◌&&◌, ◌||◌, ℕ, List, [], ◌∷◌, Bool, true, not, Option, Some, None, IfSome, is_some, option_map, nat_le}
-use Rattle.std.specs.Option.{option_map_or}
+use Rattle.std.specs.Option.{option_and_then, option_map_or}
+use Rattle.pay_dates.specs.Words.{day_of_text}
 use Rattle.pay_words.specs.declared.limits.TheConstants.{MOST_PORT, MOST_STAYING_LANES}
 use Rattle.pay_words.specs.Greeting.{is_greeting}
-use Rattle.pay_words.specs.OneWord.{Text, is_ahead, is_day, is_lanes, is_port, is_sessions, is_shards, number_of}
+use Rattle.pay_words.specs.OneWord.{Text, is_ahead, is_lanes, is_port, is_sessions, is_shards, number_of}
 use Rattle.pay_words.specs.Options.{AreParts, Grammar, Part, plain_words, values_of, fares_place, zone_place}
 use Rattle.pay_words.specs.Options.{port_option, lanes_option, shards_option, sessions_option, close_option, control_option, ahead_option, refused_option, greeting_option, journal_option, ledger_option, early_option}
 use Rattle.pay_words.specs.Run.{flags, listed}
 
--- what `serve` is asked for: a service that ends after so many connections, or one that stays
+-- what `serve` is asked for: a service that ends after so many connections, or one that stays; a day that is given is
+-- none where its word names none
 pub record Serve : Type 0 where
   pub fares : Text
   pub zone : Text
@@ -16,7 +18,7 @@ pub record Serve : Type 0 where
   pub lanes : ℕ
   pub shards : ℕ
   pub sessions : Option ℕ
-  pub close : Option ℕ
+  pub close : Option (Option ℕ)
   pub control : Option ℕ
   pub ahead : Option ℕ
   pub refused : Option Text
@@ -56,7 +58,7 @@ numbers_of t = record {
   lanes = number_of t.lanes;
   shards = number_of t.shards;
   sessions = option_map number_of t.sessions;
-  close = option_map number_of t.close;
+  close = option_map day_of_text t.close;
   control = option_map number_of t.control;
   ahead = option_map number_of t.ahead;
   refused = t.refused;
@@ -69,8 +71,8 @@ numbers_of t = record {
 -- the numbers among the words of `serve` are in their ranges, where they are given
 abbrev pub AreInRange : ServeTexts → Type 0
 AreInRange t = (is_port t.port ≡ true) × (is_lanes t.lanes ≡ true) × (is_shards t.shards ≡ true)
-    × IfSome t.sessions (λ word. is_sessions word ≡ true) × IfSome t.close (λ word. is_day word ≡ true)
-    × IfSome t.control (λ word. is_port word ≡ true) × IfSome t.ahead (λ word. is_ahead word ≡ true)
+    × IfSome t.sessions (λ word. is_sessions word ≡ true) × IfSome t.control (λ word. is_port word ≡ true)
+    × IfSome t.ahead (λ word. is_ahead word ≡ true)
 
 -- these parts have each option that both forms need once
 abbrev pub HaveNeeded : ServeTexts → List Part → Type 0
@@ -101,9 +103,13 @@ has_ports s = nat_le (last_port s.port s.lanes) MOST_PORT
 abbrev pub has_more : Serve → Bool
 has_more s = is_some s.ahead || (is_some s.refused || is_some s.greeting)
 
+-- the day that is closed at the end
+abbrev pub closed_day : Serve → Option ℕ
+closed_day s = option_and_then (λ day. day) s.close
+
 -- a service that ends serves so many connections, closes a day, has nothing of that, and has a port for each lane
 abbrev pub may_end : Serve → Bool
-may_end s = is_some s.sessions && (is_some s.close && (not (has_more s) && has_ports s))
+may_end s = is_some s.sessions && (is_some (closed_day s) && (not (has_more s) && has_ports s))
 
 -- it has no number of connections, and no day that is closed at its end
 abbrev pub has_no_end : Serve → Bool

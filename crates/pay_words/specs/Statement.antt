@@ -1,16 +1,17 @@
 -- What the words of `statement` say.
-use Rattle.std.specs.Prelude.{◌≡◌, ℕ, List, [], ◌∷◌, Option, true}
-use Rattle.pay_words.specs.OneWord.{Text, is_account, is_day, number_of}
+use Rattle.std.specs.Prelude.{◌≡◌, ℕ, List, [], ◌∷◌, Option}
+use Rattle.pay_dates.specs.Words.{day_of_text}
+use Rattle.pay_words.specs.OneWord.{Text, number_of}
 use Rattle.pay_words.specs.Options.{AreParts, Grammar, Part, plain_words, values_of}
 use Rattle.pay_words.specs.Options.{fares_place, zone_place, account_place, day_place, journal_option}
 use Rattle.pay_words.specs.Run.{listed}
 
--- what `statement` is asked for
+-- what `statement` is asked for; there is no day where its word names none
 pub record Statement : Type 0 where
   pub fares : Text
   pub zone : Text
   pub account : ℕ
-  pub day : ℕ
+  pub day : Option ℕ
   pub journal : Option Text
 
 -- the words that `statement` is given
@@ -32,13 +33,9 @@ statement_of_texts t = record {
   fares = t.fares;
   zone = t.zone;
   account = number_of t.account;
-  day = number_of t.day;
+  day = day_of_text t.day;
   journal = t.journal;
 }
-
--- its numbers are in their ranges
-abbrev pub HasNumbersInRange : StatementTexts → Type 0
-HasNumbersInRange t = (is_account t.account ≡ true) × (is_day t.day ≡ true)
 
 -- these parts are four values, in order, and the option at most once
 abbrev pub AreStatementParts : StatementTexts → List Part → Type 0

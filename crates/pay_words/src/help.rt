@@ -51,11 +51,13 @@ pub const ACCOUNT: &str = "The account, a number from 1 to 4294967295";
 
 /// What the word DAY of `statement` is.
 pub const DAY: &str = "\
-A service day of the week, counted from 1970-01-01: a number from 4 to 50000";
+A service day of the week: its date, such as 2024-01-08, or its number from 4
+to 50000, counted from 1970-01-01";
 
 /// What the word DAY of `explain` is.
 pub const DAY_EXPLAINED: &str = "\
-The service day, counted from 1970-01-01: a number from 4 to 50000";
+The service day: its date, such as 2024-01-08, or its number from 4 to 50000,
+counted from 1970-01-01";
 
 /// What the words FILE.. are.
 pub const FILES: &str = "The journals, files of lines that were accepted";
@@ -85,6 +87,9 @@ A journal that has the account, or a folder of journals; it is only read";
 
 /// What the option `--journal` of `audit` is.
 pub const JOURNAL_AUDITED: &str = "A journal, or a folder of journals; it is only read";
+
+/// What the option `--ledger` of `explain` is.
+pub const LEDGER_EXPLAINED: &str = "The SQLite file that days were closed into; it is only read";
 
 /// What the option `--week` is.
 pub const WEEK: &str = "Explain its week through that day, in place of the day alone";
@@ -118,7 +123,8 @@ first day and key that are not";
 /// What the option `--after` is.
 pub const AFTER: &str = "\
 With --against: OK if all days up to this one are priced alike. Take the
-last day that has a tap: today, if a service runs. A number from 4 to 50000";
+last day that has a tap: today, if a service runs. Its date, such as
+2024-01-08, or its number from 4 to 50000, counted from 1970-01-01";
 
 /// What the option `--port` is.
 pub const PORT: &str = "\
@@ -139,8 +145,9 @@ For a service that ends: how many connections each lane serves, from 1 to
 
 /// What the option `--close` is.
 pub const CLOSE: &str = "\
-For a service that ends: the service day that is closed at its end, a
-number from 4 to 50000, counted from 1970-01-01";
+For a service that ends: the service day that is closed at its end. Its
+date, such as 2024-01-08, or its number from 4 to 50000, counted from
+1970-01-01";
 
 /// What the option `--control` is.
 pub const CONTROL: &str = "\
@@ -173,7 +180,7 @@ Words of run (FARES ZONE), of check (FARES), of statement (FARES ZONE ACCOUNT DA
   FARES    the fare file, a TOML document, which may hold editions, fares that hold from a day on
   ZONE     the time zone, a POSIX rule text (a name such as Europe/London is none)
   ACCOUNT  the account, a number from 1 to 4294967295
-  DAY      a service day, counted from 1970-01-01: of the week, or what is explained or closed
+  DAY      a service day: its date, such as 2024-01-08, or its number, counted from 1970-01-01
   P        the port of the first lane, each further lane has the next port; with C, of all lanes
   L        how many lanes there are, from 1 to 15; with C, from 1 to 14
   N        how many shards the accounts are spread over, from 1 to 16
@@ -185,11 +192,11 @@ Words of run (FARES ZONE), of check (FARES), of statement (FARES ZONE ACCOUNT DA
 
 Further options: --journal FILE and --ledger FILE of run, and --sync with --journal; --lint and
 --against OLD of check, where OLD is another fare file, and --after DAY with --against; --journal
-FILE of statement, where it is only read; --week of explain, for the week through DAY; --journal
-FOLDER and --ledger FILE of serve; --ahead S of serve with --control, to refuse taps more than S
-seconds ahead of this machine's clock, --refused FILE, to which refused lines are added, and
---greeting TEXT, with which connections begin; --early of run and of serve, to close a day that is
-not over yet; --ledger FILE of audit.
+FILE of statement, where it is only read; --ledger FILE of explain, where it is only read, and
+--week, for the week through DAY; --journal FOLDER and --ledger FILE of serve; --ahead S of serve
+with --control, to refuse taps more than S seconds ahead of this machine's clock, --refused FILE, to
+which refused lines are added, and --greeting TEXT, with which connections begin; --early of run and
+of serve, to close a day that is not over yet; --ledger FILE of audit.
 
 Example: account 7 boards a bus in London on Monday 8 January 2024 at 07:00. The reply names the
 day, counted from 1970-01-01, its price and that of its week, in pence.

@@ -3,12 +3,6 @@
 /// The greatest number of an account. The least is 1.
 pub const MOST_ACCOUNT: u64 = 4_294_967_295;
 
-/// The first service day that may be asked for, counted from 1970-01-01.
-pub const FIRST_DAY: u64 = 4;
-
-/// The last service day that may be asked for.
-pub const LAST_DAY: u64 = 50_000;
-
 /// The greatest port that a lane may listen on. The least is 1.
 pub const MOST_PORT: u64 = 65_535;
 

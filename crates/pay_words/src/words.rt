@@ -1,6 +1,6 @@
 //! The words that the program is started with, and the job that they ask for.
 ghost use Rattle.std.specs.Prelude.{◌≡◌, ℕ, ◌<◌, ◌≤◌, Bool, true, false, codes, drop, List};
-ghost use Rattle.std.specs.Prelude.{IfOk, IfErr, IsSomeAnd, None, Some};
+ghost use Rattle.std.specs.Prelude.{IfOk, IfErr, IsSomeAnd, MatchOption, None, Some, is_some, option_map};
 ghost use Rattle.std.specs.List.{list_all};
 ghost use Rattle.clap.specs.Walk.{texts};
 ghost use Rattle.clap.specs.Words.{app_of, first_value, found_of, kind_of, one_text};
@@ -16,15 +16,16 @@ ghost use Rattle.clap.specs.ValueTests.{is_unsigned_in};
 ghost use Rattle.clap.specs.Walk.{rule_of};
 ghost use Rattle.pay_words.specs.Asked.{IsFaultOf, Text, asked, job_asked, AreJobWords, IsJob, IsJobInRange};
 ghost use Rattle.pay_words.specs.Asked.{RunIsTaken, CheckIsTaken, StatementIsTaken, ExplainIsTaken, ReplayIsTaken, ServeIsTaken, AuditIsTaken, RebuildIsTaken};
+ghost use Rattle.pay_dates.specs.Words.{day_of_text};
 ghost use Rattle.pay_words.specs.Asked.{IsAnswer, IsJobOrMemory, allowed, audit_job, check_job, explain_job, run_job, served_job, service_values, statement_job};
-ghost use Rattle.pay_words.specs.OneWord.{is_port};
+ghost use Rattle.pay_words.specs.OneWord.{is_account, is_port};
 ghost use Rattle.pay_words.specs.Audit.{Audit};
-ghost use Rattle.pay_words.specs.Check.{Check, CheckTexts, HasAfterInRange, check_of_texts, has_against};
-ghost use Rattle.pay_words.specs.Explain.{Explain, ExplainTexts, HasAccountAndDayInRange, explain_of_texts};
+ghost use Rattle.pay_words.specs.Check.{Check, CheckTexts, check_of_texts, has_after_day, has_against};
+ghost use Rattle.pay_words.specs.Explain.{Explain, ExplainTexts, explain_of_texts};
 ghost use Rattle.pay_words.specs.Greeting.{begins_or_ends_with_space, is_greeting, is_printable, is_word_of_staff};
 ghost use Rattle.pay_words.specs.Run.{Run, has_journal};
-ghost use Rattle.pay_words.specs.Serve.{AreInRange, Serve, ServeTexts, has_more, has_no_end, has_ports, leaves_room, may_greet, numbers_of};
-ghost use Rattle.pay_words.specs.Statement.{HasNumbersInRange, Statement, StatementTexts, statement_of_texts};
+ghost use Rattle.pay_words.specs.Serve.{AreInRange, Serve, ServeTexts, closed_day, has_more, has_no_end, has_ports, leaves_room, may_greet, numbers_of};
+ghost use Rattle.pay_words.specs.Statement.{Statement, StatementTexts, statement_of_texts};
 ghost use Rattle.pay_words.specs.Asked.{check as check_asked, run as run_asked, without_dashes};
 ghost use Rattle.pay_words.specs.Asked.{audit as audit_asked, explain as explain_asked, rebuild as rebuild_asked};
 ghost use Rattle.pay_words.specs.Asked.{replay as replay_asked, serve as serve_asked, statement as statement_asked, number_of};
@@ -32,12 +33,13 @@ ghost use Rattle.pay_words.specs.declared.words.WordsFault.TheVariants.{Memory};
 
 use crate::help;
 use crate::limits::{
-    FIRST_DAY, LAST_DAY, MOST_ACCOUNT, MOST_AHEAD, MOST_GREETING_BYTES, MOST_PORT,
-    MOST_SERVED_LANES, MOST_SESSIONS, MOST_SHARDS, MOST_STAYING_LANES,
+    MOST_ACCOUNT, MOST_AHEAD, MOST_GREETING_BYTES, MOST_PORT, MOST_SERVED_LANES, MOST_SESSIONS,
+    MOST_SHARDS, MOST_STAYING_LANES,
 };
 use clap::builder::ValueParser;
 use clap::error::ErrorKind;
 use clap::{Arg, ArgAction, ArgMatches, Command, Error};
+use pay_dates::read_day;
 use std::alloc::{AllocError, Global};
 use thiserror::Error;
 
@@ -55,7 +57,7 @@ pub enum Job<'a> {
     /// `statement FARES ZONE ACCOUNT DAY` and its option: the statement of an account's week, by the lines of
     /// a journal and of standard input.
     Statement(StatementWords<'a>),
-    /// `explain FARES ZONE ACCOUNT DAY --journal PATH` and its option: why an account's day was charged, or its week
+    /// `explain FARES ZONE ACCOUNT DAY --journal PATH` and its options: why an account's day was charged, or its week
     /// through that day.
     Explain(ExplainWords<'a>),
     /// `replay FARES ZONE FILE..`: whether journals can be taken again, and how many lines they have.
@@ -120,7 +122,7 @@ pub struct StatementWords<'a> {
     pub journal: Option<&'a str>,
 }
 
-/// The values of `explain FARES ZONE ACCOUNT DAY --journal PATH [--week]`.
+/// The values of `explain FARES ZONE ACCOUNT DAY --journal PATH [--ledger FILE] [--week]`.
 #[derive(Clone, Copy)]
 pub struct ExplainWords<'a> {
     /// The path of the fare file.
@@ -133,6 +135,8 @@ pub struct ExplainWords<'a> {
     pub day: u32,
     /// The path of a journal, or of a folder of journals; it is only read.
     pub journal: &'a str,
+    /// The path of the SQLite file that days were closed into; it is only read.
+    pub ledger: Option<&'a str>,
     /// Whether the week through that day is asked for, in place of the day alone.
     pub week: bool,
 }
@@ -214,7 +218,7 @@ struct Service<'a> {
     lanes: u8,
     shards: u8,
     sessions: Option<u32>,
-    close: Option<u32>,
+    close: Option<&'a str>,
     control: Option<u16>,
     ahead: Option<u32>,
     refused: Option<&'a str>,
@@ -278,7 +282,8 @@ impl From<AllocError> for WordsFault {
 /// stands after an equals sign in the same; `--sync`, `--early`, `--lint` and `--week` have none. `--sync` is taken
 /// with `--journal` alone, and `--after` with `--against`. Each is given once, before, between or after the other
 /// values. `--` says that each word after it is a value. Numbers are decimal digits, which may have a plus and zeros
-/// before them; one outside its range is refused as `Usage`, and so are lanes with a port above 65,535. With
+/// before them; one outside its range is refused as `Usage`, and so are lanes with a port above 65,535. A day is given
+/// by its number or by its date, as `2024-01-08`. With
 /// `--control` a service stays. It then has no `--sessions` and no `--close`, at most 14 lanes, a journal and
 /// a ledger, another port for its staff, and perhaps a greeting: 1 to 128 printable ASCII characters with no space at
 /// either end, and no line by which staff ask something of it. Without `--control` it has both `--sessions` and
@@ -299,15 +304,15 @@ pub fn read_words<'a>(alloc: Global, words: &'a [&'a str]) -> Result<Job<'a>, Wo
     ensures run { RunIsTaken (texts words.entry.now) result }
 
     // One word with no hyphen before it, and options at most once each, in any order, are the values of `check`, where
-    // a day comes with another fare file.
+    // a day is one, and comes with another fare file.
     ensures check { CheckIsTaken (texts words.entry.now) result }
 
-    // Two words with no hyphen before them, two numbers in their ranges, and perhaps a journal, anywhere, are the
-    // values of `statement`.
+    // Two words with no hyphen before them, an account, a day, and perhaps a journal, anywhere, are the values of
+    // `statement`.
     ensures statement { StatementIsTaken (texts words.entry.now) result }
 
-    // Two words with no hyphen before them, two numbers in their ranges, a journal, and perhaps the flag, in any order,
-    // are the values of `explain`.
+    // Two words with no hyphen before them, an account, a day, a journal, and perhaps other options, in any order, are
+    // the values of `explain`.
     ensures explain { ExplainIsTaken (texts words.entry.now) result }
 
     // Three words or more with no hyphen before them are the values of `replay`.
@@ -441,7 +446,7 @@ fn with_against<'a>(alloc: Global, command: Command<'a>) -> Result<Command<'a>, 
     with_two(
         command,
         text_option(alloc, "against", "OLD", help::AGAINST),
-        optional_number(alloc, "after", "DAY", help::AFTER, FIRST_DAY, LAST_DAY),
+        text_option(alloc, "after", "DAY", help::AFTER),
     )
 }
 
@@ -469,7 +474,7 @@ fn with_account_and_day<'a>(
     with_two(
         with_fares_and_zone(alloc, command)?,
         number_word(alloc, "ACCOUNT", help::ACCOUNT, 1, MOST_ACCOUNT),
-        number_word(alloc, "DAY", day, FIRST_DAY, LAST_DAY),
+        text_word(alloc, "DAY", day),
     )
 }
 
@@ -480,11 +485,12 @@ fn explain_command<'a>(alloc: Global) -> Result<Command<'a>, AllocError>
     let command = Command::new(alloc, "explain")
         .about(help::EXPLAIN)
         .after_help(help::BELOW_EXPLAIN);
-    with_two(
+    let kept = with_two(
         with_account_and_day(alloc, command, help::DAY_EXPLAINED)?,
         required_text(alloc, "journal", "PATH", help::JOURNAL_EXPLAINED),
-        flag_option(alloc, "week", help::WEEK),
-    )
+        text_option(alloc, "ledger", "FILE", help::LEDGER_EXPLAINED),
+    )?;
+    kept.arg(flag_option(alloc, "week", help::WEEK))
 }
 
 fn replay_command<'a>(alloc: Global) -> Result<Command<'a>, AllocError>
@@ -563,7 +569,7 @@ fn with_end<'a>(alloc: Global, command: Command<'a>) -> Result<Command<'a>, Allo
     let ended = with_two(
         command,
         optional_number(alloc, "sessions", "K", help::SESSIONS, 1, MOST_SESSIONS),
-        optional_number(alloc, "close", "DAY", help::CLOSE, FIRST_DAY, LAST_DAY),
+        text_option(alloc, "close", "DAY", help::CLOSE),
     )?;
     let stays = with_two(
         ended,
@@ -666,8 +672,8 @@ fn number_option<'a>(
 fn job_of<'a>(alloc: Global, matches: &ArgMatches<'a>) -> Result<Job<'a>, WordsFault>
     ensures run { (r : Run) → GivesRun matches.now r → IsAnswer (allowed (run_asked r)) result }
     ensures check { (c : Check) → GivesCheck matches.now c → IsAnswer (allowed (check_asked c)) result }
-    ensures statement { (s : Statement) → GivesStatement matches.now s → IsJob (statement_asked s) result }
-    ensures explain { (e : Explain) → GivesExplain matches.now e → IsJob (explain_asked e) result }
+    ensures statement { (s : Statement) → GivesStatement matches.now s → IsAnswer (allowed (statement_asked s)) result }
+    ensures explain { (e : Explain) → GivesExplain matches.now e → IsAnswer (allowed (explain_asked e)) result }
     ensures replay { (fares zone : Text) (files : List Text)
         → GivesReplay matches.now fares zone files → IsJobOrMemory (replay_asked fares zone files) result }
     ensures serve { (s : Serve) → GivesServe matches.now s → IsAnswer (allowed (serve_asked s)) result }
@@ -735,7 +741,7 @@ fn has_journal(words: &RunWords<'_>) -> bool
 }
 
 fn check_job<'a>(check: &ArgMatches<'a>) -> Result<Job<'a>, WordsFault>
-    ensures { (t : CheckTexts) → HasCheckTexts (found_of check.now) t → HasAfterInRange t
+    ensures { (t : CheckTexts) → HasCheckTexts (found_of check.now) t
         → IsAnswer (allowed (check_asked (check_of_texts t))) result }
 {
     match check_words(check) {
@@ -744,15 +750,19 @@ fn check_job<'a>(check: &ArgMatches<'a>) -> Result<Job<'a>, WordsFault>
     }
 }
 
+/// The values of `check`, where a day that is given is one.
 fn check_words<'a>(check: &ArgMatches<'a>) -> Option<CheckWords<'a>>
-    ensures { (t : CheckTexts) → HasCheckTexts (found_of check.now) t → HasAfterInRange t
-        → IsSomeAnd result (λ words. check_job words ≡ check_of_texts t) }
+    ensures { (t : CheckTexts) → HasCheckTexts (found_of check.now) t
+        → MatchOption result (has_after_day (check_of_texts t) ≡ false) (λ words. check_job words ≡ check_of_texts t) }
 {
     Some(CheckWords {
         fares: check.get_str("FARES")?,
         lints: is_flagged(check, "lint"),
         against: check.get_str("against"),
-        after: number_of(check, "after"),
+        after: match check.get_str("after") {
+            Some(day) => Some(read_day(day)?),
+            None => None,
+        },
     })
 }
 
@@ -775,8 +785,8 @@ fn has_against(words: &CheckWords<'_>) -> bool
 }
 
 fn statement_job<'a>(statement: &ArgMatches<'a>) -> Result<Job<'a>, WordsFault>
-    ensures { (t : StatementTexts) → HasStatementTexts (found_of statement.now) t → HasNumbersInRange t
-        → IsJob (statement_asked (statement_of_texts t)) result }
+    ensures { (t : StatementTexts) → HasStatementTexts (found_of statement.now) t → is_account t.account ≡ true
+        → IsAnswer (allowed (statement_asked (statement_of_texts t))) result }
 {
     match statement_words(statement) {
         Some(words) => Ok(Job::Statement(words)),
@@ -784,22 +794,23 @@ fn statement_job<'a>(statement: &ArgMatches<'a>) -> Result<Job<'a>, WordsFault>
     }
 }
 
+/// The values of `statement`, where its day is one.
 fn statement_words<'a>(statement: &ArgMatches<'a>) -> Option<StatementWords<'a>>
-    ensures { (t : StatementTexts) → HasStatementTexts (found_of statement.now) t → HasNumbersInRange t
-        → IsSomeAnd result (λ words. statement_job words ≡ statement_of_texts t) }
+    ensures { (t : StatementTexts) → HasStatementTexts (found_of statement.now) t → is_account t.account ≡ true
+        → MatchOption result (day_of_text t.day ≡ None) (λ words. statement_job words ≡ statement_of_texts t) }
 {
     Some(StatementWords {
         fares: statement.get_str("FARES")?,
         zone: statement.get_str("ZONE")?,
         account: number_of(statement, "ACCOUNT")?,
-        day: number_of(statement, "DAY")?,
+        day: read_day(statement.get_str("DAY")?)?,
         journal: statement.get_str("journal"),
     })
 }
 
 fn explain_job<'a>(explain: &ArgMatches<'a>) -> Result<Job<'a>, WordsFault>
-    ensures { (t : ExplainTexts) → HasExplainTexts (found_of explain.now) t → HasAccountAndDayInRange t
-        → IsJob (explain_asked (explain_of_texts t)) result }
+    ensures { (t : ExplainTexts) → HasExplainTexts (found_of explain.now) t → is_account t.account ≡ true
+        → IsAnswer (allowed (explain_asked (explain_of_texts t))) result }
 {
     match explain_words(explain) {
         Some(words) => Ok(Job::Explain(words)),
@@ -807,16 +818,18 @@ fn explain_job<'a>(explain: &ArgMatches<'a>) -> Result<Job<'a>, WordsFault>
     }
 }
 
+/// The values of `explain`, where its day is one.
 fn explain_words<'a>(explain: &ArgMatches<'a>) -> Option<ExplainWords<'a>>
-    ensures { (t : ExplainTexts) → HasExplainTexts (found_of explain.now) t → HasAccountAndDayInRange t
-        → IsSomeAnd result (λ words. explain_job words ≡ explain_of_texts t) }
+    ensures { (t : ExplainTexts) → HasExplainTexts (found_of explain.now) t → is_account t.account ≡ true
+        → MatchOption result (day_of_text t.day ≡ None) (λ words. explain_job words ≡ explain_of_texts t) }
 {
     Some(ExplainWords {
         fares: explain.get_str("FARES")?,
         zone: explain.get_str("ZONE")?,
         account: number_of(explain, "ACCOUNT")?,
-        day: number_of(explain, "DAY")?,
+        day: read_day(explain.get_str("DAY")?)?,
         journal: explain.get_str("journal")?,
+        ledger: explain.get_str("ledger"),
         week: is_flagged(explain, "week"),
     })
 }
@@ -877,7 +890,7 @@ fn ending_job(words: Service<'_>) -> Result<Job<'_>, WordsFault>
     requires { words.control ≡ None }
     ensures { IsAnswer (allowed (serve_asked (service_values words.entry))) result }
 {
-    match (words.sessions, words.close) {
+    match (words.sessions, closed_day(&words)) {
         (Some(sessions), Some(close)) if !has_more(&words) => job_with_ports(ServeWords {
             fares: words.fares,
             zone: words.zone,
@@ -920,6 +933,13 @@ fn staying_job(words: Service<'_>, control: u16) -> Result<Job<'_>, WordsFault>
         }
         _ => Err(WordsFault::Usage),
     }
+}
+
+/// The day that is closed at the end, where one is given.
+fn closed_day(words: &Service<'_>) -> Option<u32>
+    ensures { result ≡ closed_day (service_values words.now) }
+{
+    read_day(words.close?)
 }
 
 /// Whether there is something that a service that stays alone may have.
@@ -1019,7 +1039,7 @@ fn serve_words<'a>(serve: &ArgMatches<'a>) -> Option<Service<'a>>
         lanes: count_of(serve, "lanes")?,
         shards: count_of(serve, "shards")?,
         sessions: number_of(serve, "sessions"),
-        close: number_of(serve, "close"),
+        close: serve.get_str("close"),
         control: port_of(serve, "control"),
         ahead: number_of(serve, "ahead"),
         refused: serve.get_str("refused"),

@@ -9,7 +9,7 @@ returns-in-Some-run-default-clause-run c = λ r gives.
 pub returns-in-Some-check-default-clause-check : goal.returns-in-Some-check-default-clause-check
 returns-in-Some-check-default-clause-check c = λ x gives.
     let found = found_of c.in-Some-check-default.check.now in
-    rw (← gives.5) (c.check_job.ensures gives.0 (check_texts c.args.matches.now found x c.in-Some-check-default.ensures.rows gives) gives.4)
+    rw (← gives.4) (c.check_job.ensures gives.0 (check_texts c.args.matches.now found x c.in-Some-check-default.ensures.rows gives))
 
 pub returns-in-Some-statement-default-clause-statement : goal.returns-in-Some-statement-default-clause-statement
 returns-in-Some-statement-default-clause-statement c = λ s gives.
