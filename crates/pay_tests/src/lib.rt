@@ -27,6 +27,8 @@ mod lanes;
 #[cfg(test)]
 mod ledgers;
 #[cfg(test)]
+mod pages;
+#[cfg(test)]
 mod pieces;
 #[cfg(test)]
 mod quotes;

@@ -1,0 +1,3 @@
+pub mod Escapes
+pub mod Laws
+pub mod Words

@@ -1,0 +1,11 @@
+pub mod Frame
+pub mod Headings
+pub mod Links
+pub mod Sums
+pub mod Journeys
+pub mod Marks
+pub mod Picture
+pub mod Corrections
+pub mod DayPages
+pub mod WeekPages
+pub mod FormPages
