@@ -1,12 +1,14 @@
 """Why a day and a week were charged, by hand, and of drawn weeks by the second reckoning of tests/oracle/rules.py."""
 
+import datetime
 import itertools
 import os
 import random
+import re
 
 from oracle import loads, rules
 from support.journals import bad_line, new_folder
-from support.repository import BUS, COUNTED, LONDON, SAMPLE, TWO
+from support.repository import BUS, COUNTED, LONDON, ROOT, SAMPLE, TWO
 from support.running import MISSING, MONDAY, SEVEN, WEEK_DAYS, answers, bytes_of, fault, in_lines, run, taps_of, written
 from support.sessions import BUS_DAY, BUS_WEEK, FILLED, TRAIN_AND_BUS_WEEK, ZONE_DAY
 from support.theme import Theme
@@ -18,8 +20,13 @@ def explain(journal, account, day, *more, fares=SAMPLE, zone=LONDON):
 
 
 # The first lines for account 7.
-ON_MONDAY = "account 7, day 19730, 2024-01-08"
-THROUGH_MONDAY = "account 7, week from day 19730, 2024-01-08, through day 19730, 2024-01-08"
+ON_MONDAY = "account 7, day 19730, 2024-01-08, in GBP"
+THROUGH_MONDAY = "account 7, week from day 19730, 2024-01-08, through day 19730, 2024-01-08, in GBP"
+
+
+def dated(day):
+    """A service day with its date, by Python's calendar."""
+    return f"day {day}, {datetime.date(1970, 1, 1) + datetime.timedelta(days=day)}"
 
 
 def sums(amount, maximum, day):
@@ -126,7 +133,8 @@ DAYS = {
     "a boarding that one of the day before makes free": (
         [(1704687600, 50, "BUS"), (1704688200, 50, "BUS")], MONDAY,
         [
-            ON_MONDAY, "   0.00  04:30:00 bus 50, free: within 3600 s of the boarding on day 19729 at 04:20:00",
+            ON_MONDAY,
+            "   0.00  04:30:00 bus 50, free: within 3600 s of the boarding on day 19729, 2024-01-07, at 04:20:00",
             *sums("0.00", "0.00", "0.00"),
         ],
     ),
@@ -173,14 +181,14 @@ DAYS = {
     "on a holiday": (
         ride(SEVEN - 7 * 86_400, SEVEN - 7 * 86_400 + 1_200), 19723,
         [
-            "account 7, day 19723, 2024-01-01", f"   2.80  07:00:00 {TEN_TO_TWELVE}, off-peak (public holiday)",
+            "account 7, day 19723, 2024-01-01, in GBP", f"   2.80  07:00:00 {TEN_TO_TWELVE}, off-peak (public holiday)",
             *sums("2.80", "0.00", "2.80"),
         ],
     ),
     "on a Saturday": (
         ride(SEVEN + 5 * 86_400, SEVEN + 5 * 86_400 + 1_200), 19735,
         [
-            "account 7, day 19735, 2024-01-13", f"   2.80  07:00:00 {TEN_TO_TWELVE}, off-peak (weekend)",
+            "account 7, day 19735, 2024-01-13, in GBP", f"   2.80  07:00:00 {TEN_TO_TWELVE}, off-peak (weekend)",
             *sums("2.80", "0.00", "2.80"),
         ],
     ),
@@ -199,17 +207,18 @@ DAYS = {
     "on a leap day": (
         [(19782 * 86_400 + 25_200, 50, "BUS")], 19782,
         [
-            "account 7, day 19782, 2024-02-29", "   1.75  07:00:00 bus 50, paid: the first boarding",
+            "account 7, day 19782, 2024-02-29, in GBP", "   1.75  07:00:00 bus 50, paid: the first boarding",
             *sums("1.75", "0.00", "1.75"),
         ],
     ),
-    "on the day after it": ([], 19783, ["account 7, day 19783, 2024-03-01", *sums("0.00", "0.00", "0.00")]),
-    "on the first day": ([], 4, ["account 7, day 4, 1970-01-05", *sums("0.00", "0.00", "0.00")]),
+    "on the day after it": ([], 19783, ["account 7, day 19783, 2024-03-01, in GBP", *sums("0.00", "0.00", "0.00")]),
+    "on the first day": ([], 4, ["account 7, day 4, 1970-01-05, in GBP", *sums("0.00", "0.00", "0.00")]),
     # 2099-12-31 is day 47,481. The six years after it have 2,191 days, since 2104 has 366, and 328 more are left: the
     # 328th day of 2106.
-    "on the last day": ([], 50_000, ["account 7, day 50000, 2106-11-24", *sums("0.00", "0.00", "0.00")]),
+    "on the last day": ([], 50_000, ["account 7, day 50000, 2106-11-24, in GBP", *sums("0.00", "0.00", "0.00")]),
 }
 
+A_POUND = "   1.00  Credit 3 2 of day 19730, 2024-01-08"
 # What customer service does about an In alone, by what a journal has then: the text of the day, and that of its week.
 CORRECTED = {
     "an In alone": (
@@ -217,7 +226,7 @@ CORRECTED = {
         [
             "   8.60  07:00:00 rail in at 10, maximum fare: no tap out comes next", *sums("0.00", "8.60", "8.60"),
         ],
-        ["   0.00  day 19730", *week_sums("0.00", "8.60", "8.60", taken="0.00", due="8.60")],
+        ["   0.00  day 19730, 2024-01-08", *week_sums("0.00", "8.60", "8.60", taken="0.00", due="8.60")],
     ),
     "the Out filled, and a Credit": (
         3,
@@ -226,8 +235,8 @@ CORRECTED = {
             correction("Fill 3 1 of rail out at 12 at 07:30:00: stands"), correction("Credit 3 2 of 1.00: stands"),
         ],
         [
-            "   3.40  day 19730",
-            *week_sums("3.40", "0.00", "3.40", "   1.00  Credit 3 2 of day 19730", taken="1.00", due="2.40"),
+            "   3.40  day 19730, 2024-01-08",
+            *week_sums("3.40", "0.00", "3.40", A_POUND, taken="1.00", due="2.40"),
         ],
     ),
     "the In voided": (
@@ -239,8 +248,8 @@ CORRECTED = {
             correction("Void 3 3 of tap 1 1, rail in at 10 at 07:00:00: stands"),
         ],
         [
-            "   0.00  day 19730",
-            *week_sums("0.00", "8.60", "8.60", "   1.00  Credit 3 2 of day 19730", taken="1.00", due="7.60"),
+            "   0.00  day 19730, 2024-01-08",
+            *week_sums("0.00", "8.60", "8.60", A_POUND, taken="1.00", due="7.60"),
         ],
     ),
     "the Fill dropped": (
@@ -252,8 +261,8 @@ CORRECTED = {
             correction("Drop 3 4 of 3 1: stands"),
         ],
         [
-            "   0.00  day 19730",
-            *week_sums("0.00", "0.00", "0.00", "   1.00  Credit 3 2 of day 19730", taken="1.00", due="0.00"),
+            "   0.00  day 19730, 2024-01-08",
+            *week_sums("0.00", "0.00", "0.00", A_POUND, taken="1.00", due="0.00"),
         ],
     ),
 }
@@ -266,13 +275,16 @@ CORRECTIONS = [
 WEEKS = {
     "a capped day": (
         ZONE_DAY, MONDAY,
-        [THROUGH_MONDAY, "  10.50  day 19730", *week_sums("10.50", "0.00", "10.50", taken="0.00", due="10.50")],
+        [
+            THROUGH_MONDAY, "  10.50  day 19730, 2024-01-08",
+            *week_sums("10.50", "0.00", "10.50", taken="0.00", due="10.50"),
+        ],
     ),
     "buses, up to the week's cap": (
         BUS_WEEK, 19734,
         [
-            "account 7, week from day 19730, 2024-01-08, through day 19734, 2024-01-12",
-            *(f"   5.25  day {day}" for day in range(MONDAY, MONDAY + 5)),
+            "account 7, week from day 19730, 2024-01-08, through day 19734, 2024-01-12, in GBP",
+            *(f"   5.25  {dated(day)}" for day in range(MONDAY, MONDAY + 5)),
             "  26.25  these days, without a week cap",
             "  24.70  by the cap of buses, in place of 26.25",
             "   0.00  outside of it",
@@ -285,8 +297,8 @@ WEEKS = {
     "the same through Thursday": (
         BUS_WEEK, 19733,
         [
-            "account 7, week from day 19730, 2024-01-08, through day 19733, 2024-01-11",
-            *(f"   5.25  day {day}" for day in range(MONDAY, MONDAY + 4)),
+            "account 7, week from day 19730, 2024-01-08, through day 19733, 2024-01-11, in GBP",
+            *(f"   5.25  {dated(day)}" for day in range(MONDAY, MONDAY + 4)),
             *week_sums("21.00", "0.00", "21.00", taken="0.00", due="21.00"),
         ],
     ),
@@ -294,9 +306,9 @@ WEEKS = {
     "trains and buses, and a lone tap": (
         [*TRAIN_AND_BUS_WEEK, (SEVEN + 6 * 86_400, 12, "OUT")], 19736,
         [
-            "account 7, week from day 19730, 2024-01-08, through day 19736, 2024-01-14",
-            *(f"  10.50  day {day}" for day in range(MONDAY, MONDAY + 6)),
-            "   0.00  day 19736",
+            "account 7, week from day 19730, 2024-01-08, through day 19736, 2024-01-14, in GBP",
+            *(f"  10.50  {dated(day)}" for day in range(MONDAY, MONDAY + 6)),
+            "   0.00  day 19736, 2024-01-14",
             "  63.00  these days, without a week cap",
             "  52.50  by the cap of zones 1 to 3, in place of 63.00",
             "   0.00  outside of it",
@@ -309,8 +321,9 @@ WEEKS = {
     "a week without taps": (
         [], 19731,
         [
-            "account 7, week from day 19730, 2024-01-08, through day 19731, 2024-01-09", "   0.00  day 19730",
-            "   0.00  day 19731", *week_sums("0.00", "0.00", "0.00", taken="0.00", due="0.00"),
+            "account 7, week from day 19730, 2024-01-08, through day 19731, 2024-01-09, in GBP",
+            "   0.00  day 19730, 2024-01-08",
+            "   0.00  day 19731, 2024-01-09", *week_sums("0.00", "0.00", "0.00", taken="0.00", due="0.00"),
         ],
     ),
 }
@@ -351,6 +364,12 @@ def named(names):
     for place, name in names.items():
         text = text.replace(f"place = {place},", f"place = {place}, name = {name},")
     return text.encode()
+
+
+# What a fare file says of its currency, and the currency.
+CURRENCIES = {
+    '"EUR"': "EUR", '"GBP"': "GBP", '"eur"': "GBP", '"EURO"': "GBP", '"EU"': "GBP", '"E1R"': "GBP", "978": "GBP",
+}
 
 
 class ByHand(Theme):
@@ -397,6 +416,24 @@ class ByHand(Theme):
             self.check(f"named by {name}", explain(journal, 7, MONDAY, fares=fares), answers(in_lines(wanted)))
             self.check(f"named by {name}, a check", run(["check", fares]), answers(COUNTED))
 
+    def test_currencies(self):
+        """The currency of the fare file, and pounds where that is none. No file is refused for it."""
+        journal = self.journal([])
+        for said, currency in CURRENCIES.items():
+            fares = written(self.folder, "fares.toml", f"currency = {said}\n".encode() + bytes_of(SAMPLE))
+            for more, text in (((), "day 19730, 2024-01-08"), (("--week",), THROUGH_MONDAY[11:-8])):
+                came = explain(journal, 7, MONDAY, *more, fares=fares)
+                first = came.output.decode().splitlines()[0]
+                self.check(f"currency {said}{more}", first, f"account 7, {text}, in {currency}")
+            self.check(f"a check of a file with currency {said}", run(["check", fares]), answers(COUNTED))
+
+    def test_readme(self):
+        """The text in README.md, by the session above it, with the day by its date."""
+        lines = bytes_of(f"{ROOT}/examples/late-tap.txt").decode().splitlines()
+        text = re.search(r"```text\n(account 7, .*?)```\n", bytes_of(f"{ROOT}/README.md").decode(), re.S)[1]
+        journal = self.journal([line for line in lines if line.startswith("TAP")])
+        self.check("the text in README.md", explain(journal, 7, "2024-01-08", fares=BUS), answers(text.encode()))
+
     def test_other_accounts(self):
         """An account is told by what it has accepted alone. One that has accepted nothing, or is unknown, pays
         nothing."""
@@ -420,7 +457,7 @@ class ByHand(Theme):
             self.check(
                 f"account {account}",
                 explain(journal, account, MONDAY),
-                answers(in_lines([f"account {account}, day 19730, 2024-01-08", *rides])),
+                answers(in_lines([f"account {account}, {dated(MONDAY)}, in GBP", *rides])),
             )
 
 
@@ -495,6 +532,129 @@ class Journals(Theme):
         self.check("the files of its folder", os.listdir(self.folder), ["journal"])
 
 
+# A session over a ledger: an In alone of account 7 is closed at the maximum fare, then with its Out, then with a
+# boarding of the next day, and a Credit comes after all closes. What is due is 860, 340 and 515, of which 175 fall to
+# operator 4, whose route 50 is; account 8 has a boarding of Monday.
+CLOSED = [
+    "TAP 1 1 7 1704697200 10 IN", "TAP 2 1 8 1704697200 50 BUS", "CLOSE 19730", "TAP 1 2 7 1704699000 12 OUT",
+    "CLOSE 19730", "TAP 1 3 7 1704783600 50 BUS", "CLOSE 19731", "FIX 3 1 7 CREDIT 19735 100",
+]
+OF_THE_WEEK = "the week from day 19730, 2024-01-08"
+
+
+def posting(amount, through, due, then, now, *shares):
+    """The lines of a posting, with the shares by operator."""
+    ahead = "" if then <= now else "the ledger is ahead of the journal: "
+    where = "now" if then <= now else "in the journal"
+    return [
+        f"{amount:>7}  through {dated(through)}: {due} due; {ahead}taps and corrections accepted: {then} then, "
+        f"{now} {where}",
+        *(f"{share:>13}  of it to operator {operator}" for operator, share in shares),
+    ]
+
+
+def posted_of_seven(now):
+    """What was posted for account 7, which has so many taps and corrections by its journal."""
+    return [
+        correction(f"posted for {OF_THE_WEEK}:"),
+        *posting("8.60", 19730, "8.60", 1, now, (1, "8.60")),
+        *posting("-5.20", 19730, "3.40", 2, now, (1, "-5.20")),
+        *posting("1.75", 19731, "5.15", 3, now, (4, "1.75")),
+    ]
+
+
+class Ledgers(Theme):
+    """What was posted, below the text without a ledger."""
+
+    def close(self):
+        """The session that is closed: its journal and its ledger."""
+        journal, ledger = (os.path.join(self.folder, name) for name in ("journal", "ledger"))
+        came = run(["run", SAMPLE, LONDON, "--journal", journal, "--ledger", ledger], in_lines(CLOSED))
+        self.check("the session", (came.status, came.errors), (0, b""))
+        return journal, ledger
+
+    def test_what_was_posted(self):
+        """The postings of the account and the week of a day, whichever day of it is asked for."""
+        journal, ledger = self.close()
+        nothing = correction(f"nothing was posted for {OF_THE_WEEK}")
+        of_eight = [
+            correction(f"posted for {OF_THE_WEEK}:"), *posting("1.75", 19730, "1.75", 1, 1, (4, "1.75")),
+            *posting("0.00", 19731, "1.75", 1, 1),
+        ]
+        for account, day, more, posted in (
+            (7, MONDAY, [], posted_of_seven(4)), (7, MONDAY, ["--week"], posted_of_seven(4)),
+            (7, 19731, [], posted_of_seven(4)), (7, 19736, ["--week"], posted_of_seven(4)), (8, MONDAY, [], of_eight),
+            (9, MONDAY, [], [nothing]), (9, 19736, ["--week"], [nothing]),
+            (7, 19737, [], [correction("nothing was posted for the week from day 19737, 2024-01-15")]),
+            (7, 19729, [], [correction("nothing was posted for the week from day 19723, 2024-01-01")]),
+        ):
+            without = explain(journal, account, day, *more)
+            self.check(
+                f"account {account} on day {day} {more}",
+                explain(journal, account, day, *more, "--ledger", ledger),
+                answers(without.output + in_lines(posted)),
+            )
+
+    def test_operators(self):
+        """Operators by the names that the fare file gives them, and by their numbers alone where it gives none."""
+        journal, ledger = self.close()
+        named = b'operators = [{ operator = 1, name = "Metro" }, { operator = 17, name = "None" }]\n' + bytes_of(SAMPLE)
+        self.check(
+            "operators by their names",
+            explain(journal, 7, MONDAY, "--ledger", ledger, fares=written(self.folder, "named.toml", named)),
+            answers(
+                explain(journal, 7, MONDAY).output
+                + in_lines(posted_of_seven(4)).replace(b"operator 1\n", b"operator Metro (1)\n")
+            ),
+        )
+
+    def test_a_text(self):
+        """The whole text of a day."""
+        journal, ledger = self.close()
+        self.check(
+            "Tuesday",
+            explain(journal, 7, 19731, "--ledger", ledger),
+            answers(in_lines([
+                "account 7, day 19731, 2024-01-09, in GBP", "   1.75  07:00:00 bus 50, paid: the first boarding",
+                *sums("1.75", "0.00", "1.75"), *posted_of_seven(4),
+            ])),
+        )
+
+    def test_a_ledger_that_is_ahead(self):
+        """Where the journal lacks lines, each posting that had them says so."""
+        _, ledger = self.close()
+        journal = written(self.folder, "short", in_lines([CLOSED[0], CLOSED[3]]))
+        text = explain(journal, 7, MONDAY, "--ledger", ledger)
+        self.check("two taps", text, answers(explain(journal, 7, MONDAY).output + in_lines(posted_of_seven(2))))
+        journal = written(self.folder, "none", b"")
+        text = explain(journal, 7, MONDAY, "--ledger", ledger)
+        self.check("none", text, answers(explain(journal, 7, MONDAY).output + in_lines(posted_of_seven(0))))
+
+    def test_what_is_no_ledger(self):
+        """A ledger that is not there is not made, and what is none is refused."""
+        journal, _ = self.close()
+        text = written(self.folder, "text", b"no ledger at all, but some bytes of text\n")
+        byte = written(self.folder, "byte", b"\0")
+        none = os.path.join(self.folder, "none")
+        for name, path, wanted in (
+            ("no file", none, "no such ledger"), ("a byte", byte, "no such ledger"),
+            ("a text", text, "40 NotALedger"),
+        ):
+            self.check(name, explain(journal, 7, MONDAY, "--ledger", path), fault(wanted))
+        self.check("no file is made", os.path.exists(none), False)
+        self.check("the text stays", bytes_of(text), b"no ledger at all, but some bytes of text\n")
+
+    def test_nothing_is_posted(self):
+        """A ledger has after it what it had before."""
+        journal, ledger = self.close()
+        audit = ["audit", SAMPLE, LONDON, "--journal", journal, "--ledger", ledger]
+        before, rebuilt = run(audit), run(["rebuild", SAMPLE, ledger])
+        first = explain(journal, 7, MONDAY, "--week", "--ledger", ledger)
+        self.check("the same again", explain(journal, 7, MONDAY, "--week", "--ledger", ledger), first)
+        self.check("an audit", run(audit), before)
+        self.check("a rebuild", run(["rebuild", SAMPLE, ledger]), rebuilt)
+
+
 def pence(line):
     """The amount at the head of a line."""
     return int(line.split()[0].replace(".", ""))
@@ -552,9 +712,9 @@ def week_by_rules(fares, account, through):
     credits = sorted(fix for fix in rules.standing(account) if fix.form == "CREDIT" and fix.words[0] in days)
     taken, lone = sum(fix.words[1] for fix in credits), sum(alone for _, alone in split.values())
     return [
-        *(f"{pounds(price)}  day {day}" for day, price in prices.items()),
+        *(f"{pounds(price)}  {dated(day)}" for day, price in prices.items()),
         *sums_by_rules("these days, without a week cap", "the week", bands, offers, outside, lone),
-        *(f"{pounds(fix.words[1])}  Credit {fix.staff} {fix.seq} of day {fix.words[0]}" for fix in credits),
+        *(f"{pounds(fix.words[1])}  Credit {fix.staff} {fix.seq} of {dated(fix.words[0])}" for fix in credits),
         f"{pounds(taken)}  Credits, taken off",
         f"{pounds(rules.owed(fares, account, through)[0])}  due",
     ]

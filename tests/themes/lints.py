@@ -28,6 +28,8 @@ WARNINGS = (
     ("operator = 3 },", "operator = 3, name = 14, mane = 1 },", ("at station 5: key mane is not read",)),
     ("week = 2470 }", 'week = 2470, name = "buses" }', ("at band 1: key name is not read",)),
     ("zones = 3", 'zones = 3\nname = "sample"', ("key name is not read",)),
+    ("zones = 3", 'zones = 3\ncurrency = 1\noperators = [{ operator = 1, name = "Metro" }]', ()),
+    ("[rules]", '[rules]\ncurrency = "EUR"', ("at key rules: key currency is not read",)),
     ("peak = 280, off = 270", "peak = 270, off = 280", ("at single 1: peak 270 is below off 280",)),
     ("peak = 200, off = 180", "peak = 200, off = 0", ("at single 6: a fare of 0",)),
     ("bus = 175", "bus = 0", ("at key rules: a fare of 0",)),

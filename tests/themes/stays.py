@@ -46,6 +46,15 @@ def counted(line):
     return words[:1 + max(place for place, word in enumerate(words) if word.startswith("refused_"))]
 
 
+# Account 7 boards, is charged, boards again after more than an hour, and is charged again.
+POSTED_TWICE = [
+    "   1.75  through day 19730, 2024-01-08: 1.75 due; taps and corrections accepted: 1 then, 2 now",
+    "         1.75  of it to operator 4",
+    "   1.75  through day 19730, 2024-01-08: 3.50 due; taps and corrections accepted: 2 then, 2 now",
+    "         1.75  of it to operator 4",
+]
+
+
 class Stays(Theme):
     """One service, and those that go on with its files."""
 
@@ -622,6 +631,10 @@ class Stays(Theme):
                 # What has the service's ledger still is the service alone.
                 came = run(["audit", *RUN[1:], *with_both(journals, ledger)])
                 self.check("the service's own ledger", came, fault("43 Store"))
+                explain = ["explain", *RUN[1:], "7", str(MONDAY), "--journal", journals, "--ledger"]
+                self.check("the same to explain a day", run([*explain, ledger]), fault("43 Store"))
+                came = run([*explain, os.path.join(third, "ledger.db")])
+                self.check("what was posted, by a copy", came.output.decode().splitlines()[-4:], POSTED_TWICE)
                 staff.sendall(b"STATS\n")
                 self.check_is("whether STATS counts no backup", b" lines=5 " in line_heard(staff))
             self.check_stopped("how it ends", service)

@@ -60,7 +60,7 @@ Words of run (FARES ZONE), of check (FARES), of statement (FARES ZONE ACCOUNT DA
   FARES    the fare file, a TOML document, which may hold editions, fares that hold from a day on
   ZONE     the time zone, a POSIX rule text (a name such as Europe/London is none)
   ACCOUNT  the account, a number from 1 to 4294967295
-  DAY      a service day, counted from 1970-01-01: of the week, or what is explained or closed
+  DAY      a service day: its date, such as 2024-01-08, or its number, counted from 1970-01-01
   P        the port of the first lane, each further lane has the next port; with C, of all lanes
   L        how many lanes there are, from 1 to 15; with C, from 1 to 14
   N        how many shards the accounts are spread over, from 1 to 16
@@ -72,11 +72,11 @@ Words of run (FARES ZONE), of check (FARES), of statement (FARES ZONE ACCOUNT DA
 
 Further options: --journal FILE and --ledger FILE of run, and --sync with --journal; --lint and
 --against OLD of check, where OLD is another fare file, and --after DAY with --against; --journal
-FILE of statement, where it is only read; --week of explain, for the week through DAY; --journal
-FOLDER and --ledger FILE of serve; --ahead S of serve with --control, to refuse taps more than S
-seconds ahead of this machine's clock, --refused FILE, to which refused lines are added, and
---greeting TEXT, with which connections begin; --early of run and of serve, to close a day that is
-not over yet; --ledger FILE of audit.
+FILE of statement, where it is only read; --ledger FILE of explain, where it is only read, and
+--week, for the week through DAY; --journal FOLDER and --ledger FILE of serve; --ahead S of serve
+with --control, to refuse taps more than S seconds ahead of this machine's clock, --refused FILE, to
+which refused lines are added, and --greeting TEXT, with which connections begin; --early of run and
+of serve, to close a day that is not over yet; --ledger FILE of audit.
 """ + RUN_EXAMPLE + STATUSES + RUN_FORMATS
 RUN_HELP = b"""\
 Read taps, corrections and closes from standard input, and reply to each
@@ -121,7 +121,8 @@ Options:
       --against <OLD>  Compare with another fare file: OK if each day is priced as by it, else the
                        first day and key that are not
       --after <DAY>    With --against: OK if all days up to this one are priced alike. Take the
-                       last day that has a tap: today, if a service runs. A number from 4 to 50000
+                       last day that has a tap: today, if a service runs. Its date, such as
+                       2024-01-08, or its number from 4 to 50000, counted from 1970-01-01
   -h, --help           Print help
 
 A fare file may hold editions, fares that hold from a day on. Where it has n of them the line ends
@@ -147,7 +148,8 @@ Arguments:
   <ZONE>     The time zone, a POSIX rule text such as GMT0BST,M3.5.0/1,M10.5.0
              (a name such as Europe/London is none)
   <ACCOUNT>  The account, a number from 1 to 4294967295
-  <DAY>      A service day of the week, counted from 1970-01-01: a number from 4 to 50000
+  <DAY>      A service day of the week: its date, such as 2024-01-08, or its number from 4
+             to 50000, counted from 1970-01-01
 
 Options:
       --journal <FILE>  A file of the lines that were accepted. They are taken first; it is only
@@ -176,10 +178,12 @@ Arguments:
   <ZONE>     The time zone, a POSIX rule text such as GMT0BST,M3.5.0/1,M10.5.0
              (a name such as Europe/London is none)
   <ACCOUNT>  The account, a number from 1 to 4294967295
-  <DAY>      The service day, counted from 1970-01-01: a number from 4 to 50000
+  <DAY>      The service day: its date, such as 2024-01-08, or its number from 4 to 50000,
+             counted from 1970-01-01
 
 Options:
       --journal <PATH>  A journal that has the account, or a folder of journals; it is only read
+      --ledger <FILE>   The SQLite file that days were closed into; it is only read
       --week            Explain its week through that day, in place of the day alone
   -h, --help            Print help
 
@@ -226,8 +230,9 @@ Options:
       --shards <N>        How many shards the accounts are spread over, from 1 to 16
       --sessions <K>      For a service that ends: how many connections each lane serves, from 1 to
                           1000
-      --close <DAY>       For a service that ends: the service day that is closed at its end, a
-                          number from 4 to 50000, counted from 1970-01-01
+      --close <DAY>       For a service that ends: the service day that is closed at its end. Its
+                          date, such as 2024-01-08, or its number from 4 to 50000, counted from
+                          1970-01-01
       --control <C>       For a service that stays: the port for its staff, from 1 to 65535, and not
                           P. It needs --journal and --ledger, and takes no --sessions and no --close
       --ahead <S>         For a service that stays: refuse taps that are more than S seconds ahead
@@ -343,13 +348,13 @@ class Help(Theme):
             (RUN_HELP, (["run", "--help"], ["run", "-h"], ["help", "run"], ["run", MISSING, "no zone", "--help"])),
             (CHECK_HELP, (
                 ["check", "--help"], ["check", "-h"], ["help", "check"], ["check", MISSING, "--help"],
-                ["check", "--lint", "-h"],
+                ["check", "--lint", "-h"], ["check", "--after", "3", "--help"],
                 ["check", MISSING, "--after", "50000", "--help", "--after", "50001"],
             )),
             (STATEMENT_HELP, (
                 ["statement", "--help"], ["statement", "-h"], ["help", "statement"],
                 ["statement", MISSING, "no zone", "--help"],
-                ["statement", "-h", "no", "words", "of", "it"], [*STATE, "-h"],
+                ["statement", "-h", "no", "words", "of", "it"], [*STATE, "-h"], [*STATE[:4], "no day", "-h"],
             )),
             (EXPLAIN_HELP, (
                 ["explain", "--help"], ["help", "explain"], ["explain", MISSING, "no zone", "7", "-h"],
@@ -465,14 +470,22 @@ NO_NUMBERS = (
     "1_000", "\u0667", "9" * 40,
 )
 NO_ACCOUNTS = ("0", "00", "+0", "4294967296", "4294967303", "18446744073709551615", "18446744073709551623")
-NO_DAYS = ("0", "3", "03", "+3", "50001", "85266", "4294987026", "18446744073709571346", "Monday", "2024-01-08")
+# Dates that are none, that are out of the range of service days, or that are spelled otherwise.
+NO_DATES = (
+    "2023-02-29", "2024-02-30", "2024-13-08", "2024-00-08", "2024-01-00", "1970-01-04", "2106-11-25", "1969-12-31",
+    "20240108", "2024-1-8", "24-01-08", "2024-01-8", "2024-01-08T00:00", "2024-01-08Z", "+2024-01-08", "+002024-01-08",
+    "-002024-01-08", "02024-01-08", "2024/01/08", "2024-W02-1", "2024-008", "2024-01-08 ", " 2024-01-08", "08-01-2024",
+    "2024\u201001\u201008",
+)
+NO_DAYS = ("0", "3", "03", "+3", "50001", "85266", "4294987026", "18446744073709571346", "Monday", *NO_DATES)
 # The two as they may be spelled, with a row or without.
 TAKEN_NUMBERS = (
     ("7", "19730", True), ("+7", "19730", True), ("7", "+19730", True), ("007", "019730", True),
     ("+0007", "+0000019730", True),
     ("0" * 30 + "7", "0" * 40 + "19736", True), ("7", "19729", False), ("7", "19737", False),
     ("1", "4", False), ("1", "50000", False), ("4294967295", "19730", False), ("4294967295", "50000", False),
-    ("+1", "+4", False),
+    ("+1", "+4", False), ("7", "2024-01-08", True), ("007", "2024-01-14", True), ("7", "2024-01-07", False),
+    ("7", "2024-01-15", False), ("7", "2024-02-29", False), ("1", "1970-01-05", False), ("1", "2106-11-24", False),
 )
 
 
@@ -524,7 +537,7 @@ NUMBERS = (
     ("port", ("0", "65536", "74536", "4294967297"), ("1", "65535", "+9000", "009000")),
     ("lanes", ("0", "16", "257"), ("1", "15", "+01")),
     ("shards", ("0", "17", "257"), ("1", "16")), ("sessions", ("0", "1001", "4294967297"), ("1", "1000")),
-    ("close", ("0", "3", "50001", "4294987026"), ("4", "50000")),
+    ("close", ("0", "3", "50001", "4294987026", *NO_DATES), ("4", "50000", "1970-01-05", "2024-02-29", "2106-11-24")),
 )
 # A port, a number of lanes, and whether each of these has a port.
 PORTS = (
@@ -725,8 +738,7 @@ REFUSED_BY_CHECK = (
     [*TO_STATE, "--after", "19731"], [*TO_REPLAY, "a", "--lint"], [*TO_SERVE, "--against", "a"],
     [*TO_SERVE, "--after", "19731"],
     # What is refused comes before a call for help after it.
-    ["check", "--lint", "--lint", "--help"], ["check", "--after", "3", "--help"], ["check", "--after", "--help"],
-    ["check", "--against", "-h"],
+    ["check", "--lint", "--lint", "--help"], ["check", "--after", "--help"], ["check", "--against", "-h"],
 )
 TAKEN_OPTIONS_OF_CHECK = (
     [*TO_CHECK, "--lint"], ["check", "--lint", MISSING], ["check", "--lint", "--", MISSING],
@@ -742,14 +754,15 @@ TAKEN_OPTIONS_OF_CHECK = (
     ["check", "--against", "a", "--after=19731", "--lint", "--", MISSING],
 )
 # Days that are outside their range, and in it.
-REFUSED_DAYS, TAKEN_DAYS = ("0", "3", "03", "+3", "50001", "4294987026"), ("4", "50000", "+4", "0050000")
+REFUSED_DAYS = ("0", "3", "03", "+3", "50001", "4294987026", *NO_DATES)
+TAKEN_DAYS = ("4", "50000", "+4", "0050000", "1970-01-05", "2024-02-29", "2106-11-24")
 
 
 class Checks(Theme):
     """Words of checks."""
 
     def test_words_of_check(self):
-        """Options of a check: what is none, in what order they may stand, and the days of the one that has a number."""
+        """Options of a check: what is none, in what order they may stand, and the days of the one that has a day."""
         for given in REFUSED_BY_CHECK:
             self.check(f"the words {given}", run(given, cwd=self.folder), USAGE)
         for given in TAKEN_OPTIONS_OF_CHECK:
@@ -776,8 +789,14 @@ REFUSED_BY_EXPLAIN = (
     # The flag has no value, and is given once.
     [*TO_EXPLAIN, "--week", "--week"], [*TO_EXPLAIN, "--week=true"], [*TO_EXPLAIN, "--week="],
     [*TO_EXPLAIN, "--week", "true"], [*TO_EXPLAIN, "--Week"], [*TO_EXPLAIN, "--weeks"], [*TO_EXPLAIN, "-w"],
+    # A ledger is given once.
+    *([*TO_EXPLAIN, *more] for more in (
+        ["--ledger"], ["--ledger", "-b"], ["--ledger", "--week"], ["--ledger=b", "--ledger", "b"], ["--Ledger", "b"],
+        ["--ledgers=b"], ["--ledger", b"\xff"], ["--ledger", "b", "--early"],
+    )),
+    [*NOT_ASKED, "--ledger", "b"],
     # No option of `explain`, and that of `explain` for others.
-    *([*TO_EXPLAIN, more] for more in ("--ledger=b", "--sync", "--early", "--lint", "--version")),
+    *([*TO_EXPLAIN, more] for more in ("--sync", "--early", "--lint", "--version")),
     *([*words, "--week"] for words in (TO_RUN, TO_CHECK, TO_STATE, TO_SERVE, [*TO_REPLAY, "a"])),
     # What is refused comes before a call for help after it.
     ["explain", "--week", "--week", "--help"], ["explain", "--journal", "--help"], [*NOT_ASKED[:3], "0", "--help"],
@@ -786,7 +805,9 @@ TAKEN_BY_EXPLAIN = (
     TO_EXPLAIN, [*TO_EXPLAIN, "--week"], [*TO_EXPLAIN, "--"], ["explain", "--week", *TO_EXPLAIN[1:]],
     ["explain", "--journal=-a", *NOT_ASKED[1:3], "--week", *NOT_ASKED[3:]],
     ["explain", "--journal", "a", "--week", "--", *NOT_ASKED[1:]], [*NOT_ASKED, "--journal=a"],
-    [*NOT_ASKED, "--journal", "-"], [*NOT_ASKED, "--journal="],
+    [*NOT_ASKED, "--journal", "-"], [*NOT_ASKED, "--journal="], [*TO_EXPLAIN, "--ledger", "b"],
+    [*TO_EXPLAIN, "--week", "--ledger=-b"], ["explain", "--ledger", "b", *TO_EXPLAIN[1:], "--week"],
+    [*TO_EXPLAIN, "--ledger="],
 )
 
 
