@@ -1,5 +1,6 @@
 //! The service day that a text names.
-ghost use Rattle.std.specs.Prelude.{◌≡◌, ◌<◌};
+ghost use Rattle.std.specs.Prelude.{◌≡◌, ◌<◌, IfSome};
+ghost use Rattle.pay_day.specs.Words.{IsDay};
 ghost use Rattle.pay_dates.specs.Reading.{date_bytes, dated_day, day_of_text, is_spelled, numbered_day, ones_byte, service_day, tens_byte};
 
 use jiff::civil::Date;
@@ -9,7 +10,8 @@ use pay_day::limits::{FIRST_DAY, LAST_DAY};
 /// neither, or out of range.
 #[tactic(auto, unfolding(crate::specs::Reading::day_of_text))]
 pub fn read_day(text: &str) -> Option<u32>
-    ensures { result ≡ day_of_text text.now }
+    ensures value { result ≡ day_of_text text.now }
+    ensures in_range { IfSome result IsDay }
 {
     match numbered_day(text) {
         Some(day) => Some(day),
@@ -19,14 +21,16 @@ pub fn read_day(text: &str) -> Option<u32>
 
 /// The service day whose number a text is.
 fn numbered_day(text: &str) -> Option<u32>
-    ensures { result ≡ numbered_day text.now }
+    ensures value { result ≡ numbered_day text.now }
+    ensures in_range { IfSome result IsDay }
 {
     service_day(text.parse::<u32>().ok()?)
 }
 
 /// The service day whose date a text is.
 fn dated_day(text: &str) -> Option<u32>
-    ensures { result ≡ dated_day text.now }
+    ensures value { result ≡ dated_day text.now }
+    ensures in_range { IfSome result IsDay }
 {
     let date = text.parse::<Date>().ok()?;
     if is_spelled(date, text) {
@@ -38,7 +42,8 @@ fn dated_day(text: &str) -> Option<u32>
 
 /// The day of this number, if it is a service day.
 fn service_day(day: u32) -> Option<u32>
-    ensures { result ≡ service_day day }
+    ensures value { result ≡ service_day day }
+    ensures in_range { IfSome result IsDay }
 {
     if FIRST_DAY <= day && day <= LAST_DAY {
         Some(day)

@@ -5,12 +5,12 @@ use Rattle.pay_dates.specs.Reading.{service_day}
 use Rattle.pay_dates.proofs.Numerals.{numbered}
 use Rattle.pay_dates.proofs.reading.numbered_day.Goals as goal
 
-pub returns-in_err-ok : goal.returns-in_err-ok
-returns-in_err-ok c =
+pub returns-in_err-ok-clause-value : goal.returns-in_err-ok-clause-value
+returns-in_err-ok-clause-value c =
     let none : result_ok c.parse.result ≡ None = sym c.ok.ensures.value ∙ c.in_err-ok.was in
     c.from_residual.ensures ∙ (sym (ap (option_and_then service_day) none) ∙ numbered c.args.text.now c.parse.result c.parse.ensures.value.0)
 
-pub returns : goal.returns
-returns c =
+pub returns-clause-value : goal.returns-clause-value
+returns-clause-value c =
     let some : result_ok c.parse.result ≡ Some c.in_ok-ok.field-0 = sym c.ok.ensures.value ∙ c.in_ok-ok.was in
-    c.service_day.ensures ∙ (sym (ap (option_and_then service_day) some) ∙ numbered c.args.text.now c.parse.result c.parse.ensures.value.0)
+    c.service_day.ensures.value ∙ (sym (ap (option_and_then service_day) some) ∙ numbered c.args.text.now c.parse.result c.parse.ensures.value.0)
