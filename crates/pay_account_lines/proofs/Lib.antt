@@ -1,0 +1,5 @@
+mod AddedLines
+mod Lines
+mod Marked
+mod OwnAlone
+mod Picked

@@ -1,0 +1,5 @@
+pub mod Adding
+pub mod Laws
+pub mod Marks
+pub mod OwnLines
+pub mod Words
