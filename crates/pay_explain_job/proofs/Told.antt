@@ -1,10 +1,14 @@
 -- How the job explain ends, by how its text was written, and why there is none.
 use Rattle.std.proofs.Common.{◌≡◌, ◌++◌, inl, inr, ℕ, List, Option, Some, Result, Ok, Err, OnOk, OnErr, IfErr, sym, ap, ◌∙◌, subst}
+use Rattle.std.specs.Arc.{arc_value}
 use Rattle.std.specs.Io.KnownBytes.{Appends}
+use Rattle.std.specs.String.{string_bytes}
 use Rattle.sqlite.specs.Held.{Held}
 use Rattle.sqlite.specs.Store.{Ghosts}
 use Rattle.pay_day.specs.Words.{monday}
+use Rattle.pay_rules.specs.Accepted.{Accepted}
 use Rattle.pay_rules.specs.declared.posting.Posting.{Posting}
+use Rattle.pay_tables.specs.Words.{FareEditions}
 use Rattle.pay_rules.specs.declared.post_fault.PostFault.TheVariants.{Memory, StaleQuote, BadArchive, ArchiveConflict, QuoteDiffers}
 use Rattle.pay_names.specs.Words.{Named, called_in_text}
 use Rattle.pay_postings.specs.Words.{LedgerParts, postings_of}
@@ -20,7 +24,10 @@ use Rattle.pay_jobs.specs.Faults.{IsUnread, IsWantOfMemory}
 use Rattle.pay_jobs.specs.Replays.{IsFaultOf}
 use Rattle.pay_jobs.specs.declared.fault.Fault.{Fault}
 use Rattle.pay_jobs.specs.declared.fault.Fault.TheVariants.{BadZone, JournalLineOf, Output}
-use Rattle.pay_explain_job.specs.Explain.{Given, Query, IsExplained, IsNotExplained, ExplainWritten, ExplainRefused}
+use Rattle.pay_explain_job.specs.Accounts.{Given, IsAccount, IsTold, told}
+use Rattle.pay_explain_job.specs.declared.accounts.Account.{Account}
+use Rattle.pay_explain_job.specs.Explain.{Query, IsExplained, IsNotExplained, ExplainWritten, ExplainRefused}
+use Rattle.pay_explain_job.specs.Numbered.{numbered}
 use Rattle.pay_explain_job.specs.PostedLines.{posted_text}
 use Rattle.pay_explain_job.specs.Postings.{IsExplainedAt, IsWhole, Writes, Stops, Keeps, posted_by}
 
@@ -95,15 +102,30 @@ module _ {S : Type 0} (store : Ghosts S) (old new : Held S) (given : Given) (que
       }
 
 module _ (Is : List ℕ → Type 0) (held written : Option (List ℕ)) (text : List ℕ) where
-  pub whole_written : {T E : Type 0} (r : Result T E) → Is text → OnOk r (Appends held written text) → OnOk r (Writes Is held written)
+  pub whole_written : {T E : Type 0} (r : Result T E) → Is text → OnOk r (Appends held written text) → OnOk r (Writes (λ h. h) Is held written)
   whole_written (Ok x) is h = (text, is, h)
   whole_written (Err e) is h = tt
 
-  pub front_written : {T : Type 0} (r : Result T Fault) → Is text → OnErr r (AppendsFront held written text) → IfErr r (Stops Is held written)
+  pub front_written : {T : Type 0} (r : Result T Fault) → Is text → OnErr r (AppendsFront held written text) → IfErr r (Stops (λ h. h) Is held written)
   front_written (Ok x) is h = tt
   front_written (Err fault) is h = λ e. (text, is, h)
 
 -- where the writer failed, nothing else did
-pub writer_failed : {T : Type 0} (r : Result T Fault) (IsWhy : Fault → Type 0) (held written : Option (List ℕ)) → IfErr r (λ fault. fault ≡ Output) → IfErr r (Keeps IsWhy held written)
+pub writer_failed : {T : Type 0} (r : Result T Fault) (IsWhy : Fault → Type 0) (held written : Option (List ℕ)) → IfErr r (λ fault. fault ≡ Output) → IfErr r (Keeps (λ h. h) IsWhy held written)
 writer_failed (Ok x) IsWhy held written e = tt
 writer_failed (Err fault) IsWhy held written e = λ other. absurd (other e)
+
+-- ---- what is told of an account
+
+module _ (say : Named → List ℕ → FareEditions → Accepted → List ℕ) (given : Given) (account : ℕ) (it : Account) (text : List ℕ) where
+  abbrev pub is_told : IsAccount given account it → text ≡ told say it → IsTold say given account text
+  is_told is says =
+      record {
+        editions = arc_value it.editions;
+        accepted = is.accepted;
+        by_journals = is.by_journals;
+        says = says
+            ∙ ap (λ (a : Accepted). say it.called.places (string_bytes it.called.currency) (arc_value it.editions) a) is.sets
+            ∙ ap (λ (names : Named). say names (string_bytes it.called.currency) (arc_value it.editions) (numbered is.accepted)) is.places
+            ∙ ap (λ (currency : List ℕ). say (called_in_text given.fares).places currency (arc_value it.editions) (numbered is.accepted)) is.currency;
+      }

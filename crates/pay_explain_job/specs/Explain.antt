@@ -1,28 +1,18 @@
 -- How the job explain ends, by the texts of its fare file, of its zone and of its journals, and by what is asked for.
 use Rattle.std.specs.Prelude.{◌≡◌, ◌⊎◌, ℕ, Bool, if◌then◌else◌, List, [], ◌++◌, Option, None}
 use Rattle.std.specs.Io.KnownBytes.{Appends}
-use Rattle.pay_names.specs.Words.{Named, called_in_text}
+use Rattle.pay_names.specs.Words.{Named}
 use Rattle.pay_rules.specs.Accepted.{Accepted}
-use Rattle.pay_rules.specs.State.{accepted_of}
 use Rattle.pay_tables.specs.Words.{FareEditions}
 use Rattle.pay_explain.specs.Explained.{explained_day, explained_week}
 use Rattle.pay_wire.specs.Words.{AppendsFront}
-use Rattle.pay_run.specs.Words.{Machine, outcome, AreAllPriced}
-use Rattle.pay_jobs.specs.Replays.{IsStoppedAmong, all_requests}
+use Rattle.pay_run.specs.Words.{Machine}
+use Rattle.pay_jobs.specs.Replays.{IsStoppedAmong}
 use Rattle.pay_jobs.specs.Run.{AreNotRead, Begins}
 use Rattle.pay_jobs.specs.declared.fault.Fault.{Fault}
 use Rattle.pay_jobs.specs.declared.fault.Fault.TheVariants.{Output}
+use Rattle.pay_explain_job.specs.Accounts.{Given, IsTold}
 use Rattle.pay_explain_job.specs.Heads.{day_head, week_head}
-use Rattle.pay_explain_job.specs.Numbered.{numbered}
-
--- the texts that the job is given
-pub record Given : Type 0 where
-  pub fares : List ℕ
-  pub zone : List ℕ
-  pub journals : List (List ℕ)
-
-abbrev pub given : List ℕ → List ℕ → List (List ℕ) → Given
-given fares zone journals = record { fares = fares; zone = zone; journals = journals }
 
 -- what it is asked for: a service day of an account, or the week of that day through it
 pub record Query : Type 0 where
@@ -43,19 +33,15 @@ day_text names currency editions accepted account day = day_head currency accoun
 abbrev pub week_text : List ℕ → FareEditions → Accepted → ℕ → ℕ → List ℕ
 week_text currency editions accepted account through = week_head currency account through ++ explained_week editions accepted through
 
-abbrev pub text_of : Named → List ℕ → FareEditions → Accepted → Query → List ℕ
-text_of names currency editions accepted query =
+abbrev pub text_of : Query → Named → List ℕ → FareEditions → Accepted → List ℕ
+text_of query names currency editions accepted =
     if query.week then week_text currency editions accepted query.account query.day else day_text names currency editions accepted query.account query.day
 
 -- ---- how the job ends
 
--- A fare file and a zone are read, each line of all journals, one after the other, is accepted or was before, and this is the text of what
--- the account has then accepted, with the names that the fare file gives to places, in its currency.
-pub record IsExplained (given : Given) (query : Query) (text : List ℕ) : Type 0 where
-  pub machine : Machine
-  pub begins : Begins given.fares given.zone None machine
-  pub accepted : AreAllPriced (outcome [] machine (all_requests given.journals)).replies
-  pub says : text ≡ text_of (called_in_text given.fares).places (called_in_text given.fares).currency machine.editions (numbered (accepted_of (outcome [] machine (all_requests given.journals)).after.accounts query.account)) query
+-- this is the text of what the account has accepted by the journals, in the fare file's currency, with the names that it gives to places
+abbrev pub IsExplained : Given → Query → List ℕ → Type 0
+IsExplained given query = IsTold (text_of query) given query.account
 
 -- The job ended by itself: the text was written, and nothing else.
 abbrev pub ExplainWritten : Given → Query → Option (List ℕ) → Option (List ℕ) → Type 0

@@ -6,7 +6,6 @@ use Rattle.sqlite.specs.Store.{Ghosts}
 use Rattle.pay_day.specs.Words.{monday}
 use Rattle.pay_names.specs.Words.{Named, called_in_text}
 use Rattle.pay_rules.specs.Accepted.{version}
-use Rattle.pay_rules.specs.State.{accepted_of}
 use Rattle.pay_rules.specs.declared.posting.Posting.{Posting}
 use Rattle.pay_rules.specs.declared.post_fault.PostFault.TheVariants.{BadArchive}
 use Rattle.pay_postings.specs.Words.{LedgerParts, postings_of}
@@ -14,13 +13,12 @@ use Rattle.pay_records.specs.Words.{LedgerRows, HoldsRows, OnCleanDisk}
 use Rattle.pay_ledger.specs.Words.{IsLedger, ReadsAs, is_of_store}
 use Rattle.pay_ledger.specs.declared.fault.LedgerFault.{LedgerFault}
 use Rattle.pay_ledger.specs.declared.fault.LedgerFault.TheVariants.{Refused}
-use Rattle.pay_run.specs.Words.{outcome}
 use Rattle.pay_wire.specs.Words.{AppendsFront}
 use Rattle.pay_jobs.specs.Faults.{IsUnread}
-use Rattle.pay_jobs.specs.Replays.{all_requests}
 use Rattle.pay_jobs.specs.declared.fault.Fault.{Fault}
 use Rattle.pay_jobs.specs.declared.fault.Fault.TheVariants.{Output}
-use Rattle.pay_explain_job.specs.Explain.{Given, Query, IsExplained, IsNotExplained}
+use Rattle.pay_explain_job.specs.Accounts.{Given}
+use Rattle.pay_explain_job.specs.Explain.{Query, IsExplained, IsNotExplained}
 use Rattle.pay_explain_job.specs.PostedLines.{posted_text}
 
 -- the text of what all postings have of the account and the week that are asked for, where the account has this version now
@@ -30,7 +28,7 @@ posted_by names query now all = posted_text names (monday query.day) now (postin
 -- what is told without a ledger, and the version that the account has by the journals
 pub record IsExplainedAt (given : Given) (query : Query) (now : ℕ) (text : List ℕ) : Type 0 where
   pub explained : IsExplained given query text
-  pub accepted : now ≡ version (accepted_of (outcome [] explained.machine (all_requests given.journals)).after.accounts query.account)
+  pub version : now ≡ version explained.accepted
 
 -- ---- how the job ends
 
@@ -62,14 +60,16 @@ module _ {S : Type 0} (store : Ghosts S) (old new : Held S) where
   abbrev pub IsUntold : Given → Query → Fault → Type 0
   IsUntold given query fault = IsNotPosted query fault ⊎ IsNotExplained given fault
 
--- such a text was written, and nothing else
-abbrev pub Writes : (List ℕ → Type 0) → Option (List ℕ) → Option (List ℕ) → Type 0
-Writes Is held written = (text : List ℕ) × Is text × Appends held written text
+-- by what a writer holds, where it is known, before and after
+module _ {W : Type 0} (contents : W → Option (List ℕ)) where
+  -- such a text was written, and nothing else
+  abbrev pub Writes : (List ℕ → Type 0) → W → W → Type 0
+  Writes Is old new = (text : List ℕ) × Is text × Appends (contents old) (contents new) text
 
--- where the writer failed, of such a text no more than a front was written
-abbrev pub Stops : (List ℕ → Type 0) → Option (List ℕ) → Option (List ℕ) → Fault → Type 0
-Stops Is held written fault = fault ≡ Output → (text : List ℕ) × Is text × AppendsFront held written text
+  -- where the writer failed, of such a text no more than a front was written
+  abbrev pub Stops : (List ℕ → Type 0) → W → W → Fault → Type 0
+  Stops Is old new fault = fault ≡ Output → (text : List ℕ) × Is text × AppendsFront (contents old) (contents new) text
 
--- else there is a reason for there being no text, and nothing was written
-abbrev pub Keeps : (Fault → Type 0) → Option (List ℕ) → Option (List ℕ) → Fault → Type 0
-Keeps IsWhy held written fault = fault ≢ Output → IsWhy fault × (written ≡ held)
+  -- else there is a reason for there being no text, and nothing was written
+  abbrev pub Keeps : (Fault → Type 0) → W → W → Fault → Type 0
+  Keeps IsWhy old new fault = fault ≢ Output → IsWhy fault × (contents new ≡ contents old)

@@ -1,31 +1,25 @@
 //! The job `explain`, by the texts of its fare file, its zone and its journals: all that the program does below the reading of files.
-ghost use Rattle.std.specs.Prelude.{◌≡◌, ◌+◌, ◌++◌, length, map as each, IfOk, IfErr, OnOk, OnErr};
+ghost use Rattle.std.specs.Prelude.{◌≡◌, ◌++◌, map as each, vec_items, IfOk, IfErr, OnOk, OnErr};
 ghost use Rattle.std.specs.Io.KnownBytes.{Appends};
 ghost use Rattle.std.specs.String.{string_bytes};
 ghost use Rattle.pay_day.specs.Words.{IsDay};
 ghost use Rattle.pay_ledger.specs.Words.{ChangesNothing};
 ghost use Rattle.pay_records.specs.Words.{LeavesAsBefore};
 ghost use Rattle.pay_names.specs.Words.{called_in_text};
-ghost use Rattle.pay_rules.specs.Accepted.{version};
-ghost use Rattle.pay_rules.specs.State.{accepted_of};
-ghost use Rattle.pay_shard.specs.Words.{state_now};
 ghost use Rattle.pay_wire.specs.Words.{AppendsFront, IsFlushed, HasFault};
-ghost use Rattle.pay_explain_job.specs.Numbered.{numbered};
-ghost use Rattle.pay_explain_job.specs.Explain.{text_of, IsNotExplained, ExplainWritten, ExplainRefused, given, query};
+ghost use Rattle.pay_explain_job.specs.Accounts.{given, told};
+ghost use Rattle.pay_explain_job.specs.Explain.{text_of, IsNotExplained, ExplainWritten, ExplainRefused, query};
 ghost use Rattle.pay_explain_job.specs.PostedLines.{posted_text};
 ghost use Rattle.pay_explain_job.specs.Postings.{IsExplainedAt, IsWhole, IsUntold, Writes, Stops, Keeps};
 
+use crate::accounts::{Account, account_by};
 use crate::posted::posted_text;
-use crate::sets::{fix_set, sets_of, tap_set};
 use crate::texts::text_of;
-use pay_book::Book;
 use pay_day::monday;
-use pay_jobs::{Fault, begin_service, replayed_texts};
+use pay_jobs::Fault;
 use pay_ledger::Ledger;
-use pay_names::{Called, Names, called_in};
-use pay_rules::{Posting, Sets};
-use pay_run::replayed_lines;
-use pay_shard::Shard;
+use pay_names::Names;
+use pay_rules::Posting;
 use pay_wire::{KnownWriter, send_line};
 use sqlite::Alter;
 use std::alloc::{AllocError, Global};
@@ -54,8 +48,8 @@ pub fn explain_texts<W: KnownWriter>(
     writer: &mut W,
 ) -> Result<(), Fault>
     requires { IsDay day }
-    ensures ends { OnOk result (ExplainWritten (given fares.now zone.now (each (λ text. text.items) texts.now)) (query account day week) (W.contents writer.old) (W.contents writer.new)) }
-    ensures fails { IfErr result (ExplainRefused (given fares.now zone.now (each (λ text. text.items) texts.now)) (query account day week) (W.contents writer.old) (W.contents writer.new)) }
+    ensures ends { OnOk result (ExplainWritten (given fares.now zone.now (each vec_items texts.now)) (query account day week) (W.contents writer.old) (W.contents writer.new)) }
+    ensures fails { IfErr result (ExplainRefused (given fares.now zone.now (each vec_items texts.now)) (query account day week) (W.contents writer.old) (W.contents writer.new)) }
     ensures flushed { OnOk result (IsFlushed W.MayAnswer writer.new) }
     ensures cause { IfErr result (λ fault. fault ≡ Fault.Output → HasFault W.MayAnswer writer.new) }
 {
@@ -77,9 +71,9 @@ pub fn explain_with_ledger<W: KnownWriter, S: Alter>(
     writer: &mut W,
 ) -> Result<(), Fault>
     requires { IsDay day }
-    ensures ends { OnOk result (Writes (IsWhole S.Store ledger.old ledger.new (given fares.now zone.now (each (λ text. text.items) texts.now)) (query account day week)) (W.contents writer.old) (W.contents writer.new)) }
-    ensures stops { IfErr result (Stops (IsWhole S.Store ledger.old ledger.new (given fares.now zone.now (each (λ text. text.items) texts.now)) (query account day week)) (W.contents writer.old) (W.contents writer.new)) }
-    ensures fails { IfErr result (Keeps (IsUntold S.Store ledger.old ledger.new (given fares.now zone.now (each (λ text. text.items) texts.now)) (query account day week)) (W.contents writer.old) (W.contents writer.new)) }
+    ensures ends { OnOk result (Writes W.contents (IsWhole S.Store ledger.old ledger.new (given fares.now zone.now (each vec_items texts.now)) (query account day week)) writer.old writer.new) }
+    ensures stops { IfErr result (Stops W.contents (IsWhole S.Store ledger.old ledger.new (given fares.now zone.now (each vec_items texts.now)) (query account day week)) writer.old writer.new) }
+    ensures fails { IfErr result (Keeps W.contents (IsUntold S.Store ledger.old ledger.new (given fares.now zone.now (each vec_items texts.now)) (query account day week)) writer.old writer.new) }
     ensures flushed { OnOk result (IsFlushed W.MayAnswer writer.new) }
     ensures cause { IfErr result (λ fault. fault ≡ Fault.Output → HasFault W.MayAnswer writer.new) }
     ensures unchanged { ChangesNothing S.Store ledger.old ledger.new }
@@ -138,58 +132,46 @@ fn explained(
     week: bool,
 ) -> Result<Explanation, Fault>
     requires { IsDay day }
-    ensures explained { IfOk result (λ it. IsExplainedAt (given fares.now zone.now (each (λ text. text.items) texts.now)) (query account day week) it.version (string_bytes it.text)) }
+    ensures explained { IfOk result (λ it. IsExplainedAt (given fares.now zone.now (each vec_items texts.now)) (query account day week) it.version (string_bytes it.text)) }
     ensures operators { IfOk result (λ it. it.operators ≡ (called_in_text fares.now).operators) }
-    ensures fails { IfErr result (IsNotExplained (given fares.now zone.now (each (λ text. text.items) texts.now))) }
+    ensures fails { IfErr result (IsNotExplained (given fares.now zone.now (each vec_items texts.now))) }
 {
-    pay_run::laws::all_else_stays();
-    let read = begin_service(alloc, fares, zone)?;
-    let replayed = replayed_texts(alloc, read.editions, &read.zone, texts, 0)?;
-    // What was replayed is what the shard has.
-    replayed_lines(&replayed.0);
-    let called = called_in(alloc, fares)?;
-    let explanation = text_by(alloc, called, replayed.0.shard(), account, day, week)?;
-    Ok(explanation)
-}
-
-/// The same by what a shard has.
-fn text_by(
-    alloc: Global,
-    called: Called,
-    shard: &Shard<Book>,
-    account: u32,
-    day: u32,
-    week: bool,
-) -> Result<Explanation, AllocError>
-    requires { IsDay day }
-    ensures text { IfOk result (λ it. string_bytes it.text ≡ text_of called.places (string_bytes called.currency) shard.now.editions (numbered (accepted_of (state_now shard.now) account)) (query account day week)) }
-    ensures operators { IfOk result (λ it. it.operators ≡ called.operators) }
-    ensures version { IfOk result (λ it. it.version ≡ version (accepted_of (state_now shard.now) account)) }
-{
-    let sets = sets_of(alloc, shard, account)?;
-    let taps = tap_set(alloc, sets.taps())?;
-    let fixes = fix_set(alloc, sets.fixes())?;
-    let text = text_of(
-        alloc,
-        &called.places,
-        called.currency.as_str(),
-        shard.editions(),
-        &taps,
-        &fixes,
-        account,
-        day,
-        week,
-    )?;
+    let accepted = account_by(alloc, fares, zone, texts, account)?;
+    let text = text_by(alloc, &accepted, account, day, week)?;
     Ok(Explanation {
         text,
-        version: version_of(&sets),
-        operators: called.operators,
+        version: accepted.version,
+        operators: accepted.called.operators,
     })
 }
 
-/// How many taps and corrections there are.
-fn version_of(sets: &Sets) -> usize
-    ensures { result ≡ length sets.now.taps + length sets.now.fixes }
+/// The text by what the account has accepted.
+fn text_by(
+    alloc: Global,
+    accepted: &Account,
+    account: u32,
+    day: u32,
+    week: bool,
+) -> Result<String, AllocError>
+    requires { IsDay day }
+    ensures { IfOk result (λ text. string_bytes text ≡ told (text_of (query account day week)) accepted.now) }
 {
-    sets.taps().len() + sets.fixes().len()
+    let Account {
+        called,
+        editions,
+        taps,
+        fixes,
+        ..
+    } = accepted;
+    text_of(
+        alloc,
+        &called.places,
+        called.currency.as_str(),
+        editions,
+        taps,
+        fixes,
+        account,
+        day,
+        week,
+    )
 }

@@ -60,7 +60,7 @@ pub fn text_of(
     week: bool,
 ) -> Result<String, AllocError>
     requires { IsDay day }
-    ensures { IfOk result (λ text. string_bytes text ≡ text_of names.now currency.now editions.now (record { taps = taps.now; fixes = fixes.now }) (query account day week)) }
+    ensures { IfOk result (λ text. string_bytes text ≡ text_of (query account day week) names.now currency.now editions.now (record { taps = taps.now; fixes = fixes.now })) }
 {
     if week {
         week_text(alloc, currency, editions, taps, fixes, account, day)

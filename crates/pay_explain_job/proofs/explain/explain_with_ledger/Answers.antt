@@ -1,8 +1,9 @@
 use Rattle.std.proofs.Common.{◌∙◌, inl, inr, refl, sym, subst}
 use Rattle.std.proofs.lemmas.Result.{err_from_is_err_and}
-use Rattle.std.specs.Prelude.{map as each}
+use Rattle.std.specs.Prelude.{map as each, vec_items}
 use Rattle.std.specs.String.{string_bytes}
-use Rattle.pay_explain_job.specs.Explain.{given, query}
+use Rattle.pay_explain_job.specs.Accounts.{given}
+use Rattle.pay_explain_job.specs.Explain.{query}
 use Rattle.pay_explain_job.specs.Postings.{IsWhole}
 use Rattle.pay_explain_job.proofs.Told.{not_unread, not_output, whole, whole_written, front_written, writer_failed, wants_none}
 use Rattle.pay_explain_job.proofs.explain.explain_with_ledger.Goals as goal
@@ -63,7 +64,7 @@ returns-in_err-text-clause-cause g c =
 pub returns-clause-ends : goal.returns-clause-ends
 returns-clause-ends g c =
     let asked = query c.args.account c.args.day c.args.week in
-    let texts = given c.args.fares.now c.args.zone.now (each (λ text. text.items) c.args.texts.now) in
+    let texts = given c.args.fares.now c.args.zone.now (each vec_items c.args.texts.now) in
     let told = c.in_ok-explanation.ensures in
     let is = whole g.S.Store c.args.ledger.now c.postings.new.self texts asked _ _ _ _ _ _ told.operators c.monday-from.ensures.value (λ clean ledger k. c.as_slice.ensures ∙ c.in_ok-postings.ensures.told clean ledger k)
     (λ clean rows k. let r = c.in_ok-postings.ensures.read clean rows k in (r.0, r.1, c.as_slice.ensures ∙ r.2)) told.explained c.in_ok-text.ensures in
@@ -73,7 +74,7 @@ returns-clause-ends g c =
 pub returns-clause-stops : goal.returns-clause-stops
 returns-clause-stops g c =
     let asked = query c.args.account c.args.day c.args.week in
-    let texts = given c.args.fares.now c.args.zone.now (each (λ text. text.items) c.args.texts.now) in
+    let texts = given c.args.fares.now c.args.zone.now (each vec_items c.args.texts.now) in
     let told = c.in_ok-explanation.ensures in
     let is = whole g.S.Store c.args.ledger.now c.postings.new.self texts asked _ _ _ _ _ _ told.operators c.monday-from.ensures.value (λ clean ledger k. c.as_slice.ensures ∙ c.in_ok-postings.ensures.told clean ledger k)
     (λ clean rows k. let r = c.in_ok-postings.ensures.read clean rows k in (r.0, r.1, c.as_slice.ensures ∙ r.2)) told.explained c.in_ok-text.ensures in

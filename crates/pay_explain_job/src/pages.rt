@@ -1,0 +1,58 @@
+//! The pages of an account, by the texts of its fare file, its zone and its journals.
+ghost use Rattle.std.specs.Prelude.{◌≡◌, map as each, vec_items, IfOk, IfErr};
+ghost use Rattle.std.specs.String.{string_bytes};
+ghost use Rattle.pay_day.specs.Words.{IsDay};
+ghost use Rattle.pay_explain_job.specs.Accounts.{given, told};
+ghost use Rattle.pay_explain_job.specs.Explain.{query, IsNotExplained};
+ghost use Rattle.pay_explain_job.specs.Pages.{page_text, IsPaged};
+
+use crate::accounts::{Account, account_by};
+use pay_jobs::Fault;
+use pay_page::{day_page, week_page};
+use std::alloc::{AllocError, Global};
+
+/// The page of a service day of an account, counted from 1970-01-01, or of its week through that day: by what the account has accepted
+/// of journals, which are given as texts and replayed one after the other. The fare file is read before the zone, and both before the
+/// journals. A line that is not accepted is told by the number of its journal, from 0 on.
+pub fn page_by_texts(
+    alloc: Global,
+    fares: &str,
+    zone: &str,
+    texts: &[Vec<u8>],
+    account: u32,
+    day: u32,
+    week: bool,
+) -> Result<String, Fault>
+    requires { IsDay day }
+    ensures page { IfOk result (λ text. IsPaged (given fares.now zone.now (each vec_items texts.now)) (query account day week) (string_bytes text)) }
+    ensures fails { IfErr result (IsNotExplained (given fares.now zone.now (each vec_items texts.now))) }
+{
+    let accepted = account_by(alloc, fares, zone, texts, account)?;
+    let page = page_of(alloc, &accepted, account, day, week)?;
+    Ok(page)
+}
+
+/// The same by what the account has accepted.
+fn page_of(
+    alloc: Global,
+    accepted: &Account,
+    account: u32,
+    day: u32,
+    week: bool,
+) -> Result<String, AllocError>
+    requires { IsDay day }
+    ensures { IfOk result (λ text. string_bytes text ≡ told (page_text (query account day week)) accepted.now) }
+{
+    let Account {
+        called,
+        editions,
+        taps,
+        fixes,
+        ..
+    } = accepted;
+    if week {
+        week_page(alloc, editions, taps, fixes, account, day)
+    } else {
+        day_page(alloc, &called.places, editions, taps, fixes, account, day)
+    }
+}
