@@ -1,0 +1,6 @@
+pub mod Answers
+pub mod Asked
+pub mod Fields
+pub mod Laws
+pub mod Questions
+pub mod Words

@@ -1,0 +1,88 @@
+//! What a request asks for.
+ghost use Rattle.std.specs.Prelude.{◌≡◌, option_copied};
+ghost use Rattle.http.specs.Request.{head_of};
+ghost use Rattle.http_uri.specs.Uri.{uri_query};
+ghost use Rattle.pay_web.specs.Questions.{IsQuestion, is_for, page_question, path_question, question_of};
+
+use crate::asked::{Asked, asked_by};
+use crate::hosts::Hosts;
+use bytes::Bytes;
+use http::header::HOST;
+use http::{Method, Request, Uri};
+
+/// What a request asks for, or why it is refused.
+#[derive(Clone, Copy)]
+pub(crate) enum Question {
+    /// `/`: the form that asks for an account and a day.
+    Form,
+    /// `/style.css`: how the pages look.
+    Style,
+    /// `/healthz`: whether pages can be made.
+    Health,
+    /// `/day?account=A&day=D` or `/week?account=A&day=D`: a page of an account.
+    Page(Asked),
+    /// Such a path with another query.
+    BadQuery,
+    /// Another path.
+    Unknown,
+    /// Another method than GET or HEAD.
+    BadMethod,
+    /// A request to another host than this machine, as a page of another site can send one.
+    Misdirected,
+}
+
+/// What a request asks for at a page that these hosts name.
+pub(crate) fn question_of(hosts: &Hosts, request: &Request<Bytes>) -> Question
+    ensures question { result ≡ question_of hosts.now (head_of request.now) }
+    ensures in_range { IsQuestion result }
+{
+    if !is_for(hosts, request) {
+        return Question::Misdirected;
+    }
+    if *request.method() != Method::GET && *request.method() != Method::HEAD {
+        return Question::BadMethod;
+    }
+    path_question(request.uri())
+}
+
+/// Whether a request is for one of these hosts, by its `Host` field, and in a form that names no other.
+fn is_for(hosts: &Hosts, request: &Request<Bytes>) -> bool
+    ensures { result ≡ is_for hosts.now (head_of request.now) }
+{
+    if request.uri().authority().is_some() {
+        return false;
+    }
+    match request.headers().get(HOST) {
+        Some(host) => hosts.is_among(host.as_bytes()),
+        None => false,
+    }
+}
+
+/// What a path and a query ask for.
+fn path_question(uri: &Uri) -> Question
+    ensures question { result ≡ path_question uri.now }
+    ensures in_range { IsQuestion result }
+{
+    match uri.path() {
+        "/" => Question::Form,
+        "/style.css" => Question::Style,
+        "/healthz" => Question::Health,
+        "/day" => page_question(uri, false),
+        "/week" => page_question(uri, true),
+        _ => Question::Unknown,
+    }
+}
+
+/// What a query asks for at the path of a day or of a week.
+fn page_question(uri: &Uri, week: bool) -> Question
+    ensures question { result ≡ page_question week (uri_query uri.now) }
+    ensures in_range { IsQuestion result }
+{
+    match uri.query() {
+        Some(query) => match asked_by(query, week) {
+            Some(asked) => Question::Page(asked),
+            None => Question::BadQuery,
+        },
+        None => Question::BadQuery,
+    }
+}
