@@ -2,6 +2,7 @@
 #![tactic(auto)]
 
 mod explain;
+mod page;
 mod program;
 mod serve;
 mod stay;

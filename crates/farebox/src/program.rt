@@ -2,6 +2,7 @@
 ghost use Rattle.farebox.specs.NoJob.{IsTextOrFault};
 
 use crate::explain::explain_account;
+use crate::page::show_pages;
 use crate::serve::serve_sessions;
 use crate::stay::stay_on;
 use pay_files::{
@@ -15,6 +16,7 @@ use std::alloc::{AllocError, Global};
 use std::fs::File;
 use std::net::{Net, TcpListener, TcpStream};
 use std::process::ExitCode;
+use std::random::RandomSource;
 use std::rt::{Clock, Env, Files};
 use std::sync::Wait;
 use std::thread::Threads;
@@ -40,6 +42,7 @@ where
         + Files<File = File>
         + Ledgers<InFile = Ledger<S>>
         + Clock
+        + RandomSource
         + Input
         + Print
         + Log
@@ -76,6 +79,7 @@ where
         + Files<File = File>
         + Ledgers<InFile = Ledger<S>>
         + Clock
+        + RandomSource
         + Input
         + Print
         + Log
@@ -106,6 +110,7 @@ where
         + Files<File = File>
         + Ledgers<InFile = Ledger<S>>
         + Clock
+        + RandomSource
         + Input
         + Print
         + Log
@@ -119,6 +124,7 @@ where
         Ok(Job::Check(words)) => check_fares(&rt, &words),
         Ok(Job::Statement(words)) => write_statement(&rt, &words),
         Ok(Job::Explain(words)) => explain_account(&rt, &words),
+        Ok(Job::Page(words)) => show_pages(rt, &words),
         Ok(Job::Replay(words)) => replay_journals(&rt, &words),
         Ok(Job::Serve(words)) => serve_sessions(rt, &words),
         Ok(Job::Stay(words)) => stay_on(rt, &words),

@@ -6,10 +6,10 @@ use Rattle.clap.specs.ValueTests.{is_unsigned_in}
 use Rattle.std.specs.Prelude.{IfSome, ⊤, is_some}
 use Rattle.pay_dates.specs.Words.{day_of_text}
 use Rattle.pay_dates.proofs.ServiceDays.{day_no_hyphen}
-use Rattle.pay_words.specs.OneWord.{is_account}
+use Rattle.pay_words.specs.OneWord.{is_account, is_port}
 use Rattle.std.proofs.lemmas.Bool.Decides.{eqb_tells}
-use Rattle.pay_words.specs.Asked.{AreAuditWords, AreCheckWords, AreExplainWords, AreRunWords, AreServeWords, AreStatementWords, Asked, HaveNoHyphens, Word, allowed, asked, many_by, many_given, word_kind, words_ask, option_asked, program_asked}
-use Rattle.pay_words.specs.Asked.{audit, audit_asked, audit_of, explain, explain_asked, explain_of, rebuild, rebuild_asked, rebuild_of}
+use Rattle.pay_words.specs.Asked.{AreAuditWords, AreCheckWords, AreExplainWords, ArePageWords, AreRunWords, AreServeWords, AreStatementWords, Asked, HaveNoHyphens, Word, allowed, asked, many_by, many_given, word_kind, words_ask, option_asked, program_asked}
+use Rattle.pay_words.specs.Asked.{audit, audit_asked, audit_of, explain, explain_asked, explain_of, page, page_asked, page_of, rebuild, rebuild_asked, rebuild_of}
 use Rattle.pay_words.specs.Asked.{check, check_asked, check_of, replay, replay_asked, run, run_asked, run_of, serve, serve_asked, serve_of, statement, statement_asked, statement_of}
 use Rattle.pay_words.specs.Asked.{Given, with_value, values, help, refused, without_dashes}
 use Rattle.pay_words.specs.Asked as words
@@ -20,6 +20,7 @@ use Rattle.pay_words.specs.Options.{lint_option, against_option, after_option, w
 use Rattle.pay_words.specs.Audit.{AreAuditParts, Audit, audit_grammar}
 use Rattle.pay_words.specs.Check.{AreCheckParts, CheckTexts, check_grammar, check_of_texts, may_check}
 use Rattle.pay_words.specs.Explain.{AreExplainParts, ExplainTexts, explain_grammar, explain_of_texts}
+use Rattle.pay_words.specs.Page.{ArePageParts, PageTexts, page_grammar, page_of_texts}
 use Rattle.pay_words.specs.Rebuild.{rebuild_grammar}
 use Rattle.pay_words.specs.Run.{AreRunParts, Run, first_given, flags, has_journal, is_given, listed, run_grammar}
 use Rattle.pay_words.specs.Serve.{AreInRange, ArePartsOf, ServeTexts, is_whole, numbers_of, serve_grammar}
@@ -35,6 +36,7 @@ use Rattle.pay_words.proofs.WordsAfterAudit.{audit_apart, audit_built, audit_rul
 use Rattle.pay_words.proofs.WordsAfterCheck.{check_apart, check_built, check_rules, check_shape}
 use Rattle.pay_words.proofs.WordsAfterExplain.{explain_apart, explain_built, explain_rules, explain_shape}
 use Rattle.pay_words.proofs.WordsAfterOptions.{Comes, Places, Under, ends}
+use Rattle.pay_words.proofs.WordsAfterPage.{page_apart, page_built, page_rules, page_shape}
 use Rattle.pay_words.proofs.WordsAfterRebuild.{rebuild_apart, rebuild_built, rebuild_rules}
 use Rattle.pay_words.proofs.WordsAfterReplay.{replay_long, replay_rules, replay_short}
 use Rattle.pay_words.proofs.WordsAfterRun.{run_apart, run_built, run_rules, run_shape}
@@ -80,6 +82,7 @@ AreWordsOf (run r) ws = AreRunWords r (without_dashes ws)
 AreWordsOf (check c) ws = AreCheckWords c (without_dashes ws)
 AreWordsOf (statement s) ws = AreStatementWords s (without_dashes ws)
 AreWordsOf (explain e) ws = AreExplainWords e (without_dashes ws)
+AreWordsOf (page p) ws = ArePageWords p (without_dashes ws)
 AreWordsOf (replay a b files) ws = (without_dashes ws ≡ codes "replay" ∷ a ∷ b ∷ files) × (files ≢ [])
 AreWordsOf (serve s) ws = AreServeWords s (without_dashes ws)
 AreWordsOf (audit a) ws = AreAuditWords a (without_dashes ws)
@@ -225,6 +228,35 @@ after_explain rest = go (all_said explain_grammar rest) (Level explain_shape [] 
     go : (x : Said) (ks : Kinds) (rows : List Row) → Says explain_grammar (codes "explain") explain_rules explain_built explain_apart x (without_dashes rest)
         → Comes explain_grammar (codes "explain") explain_rules explain_built explain_apart x ks rows → AreWordsOf (explain_asked x) (codes "explain" ∷ rest)
     go (all_of parts) ks rows s h = made parts h.0 s h.1.2 (plain_words parts) (values_of journal_option parts) refl refl h.1.1
+    go help_wanted ks rows s h = tt
+    go not_taken ks rows s h = tt
+
+after_page : (rest : List Text) → AreWordsOf (page_asked (all_said page_grammar rest)) (codes "page" ∷ rest)
+after_page rest = go (all_said page_grammar rest) (Level page_shape [] (stand [] None idle 1 false) rest false []) (rows_from page_shape [] (stand [] None idle 1 false) rest)
+    (says page_grammar (codes "page") page_rules page_built page_apart rest) (ends page_grammar (codes "page") page_rules page_built page_apart rest)
+  where
+    made : (parts : List Part) (had : List Row) → Says page_grammar (codes "page") page_rules page_built page_apart (all_of parts) (without_dashes rest)
+        → ((k : Setting) → Under had k (values_of k parts)) → (vs js ps : List Text) → plain_words parts ≡ vs → values_of journal_option parts ≡ js → values_of port_option parts ≡ ps
+        → AreWordsOf (page_of vs js ps) (codes "page" ∷ rest)
+    made parts had s under [] js ps is j p = tt
+    made parts had s under (a ∷ []) js ps is j p = tt
+    made parts had s under (a ∷ b ∷ c ∷ more) js ps is j p = tt
+    made parts had s under (a ∷ b ∷ []) [] ps is j p = tt
+    made parts had s under (a ∷ b ∷ []) (w ∷ v ∷ more) ps is j p = tt
+    made parts had s under (a ∷ b ∷ []) (w ∷ []) [] is j p = tt
+    made parts had s under (a ∷ b ∷ []) (w ∷ []) (n ∷ v ∷ more) is j p = tt
+    made parts had s under (a ∷ b ∷ []) (w ∷ []) (n ∷ []) is j p = (
+      record { fares = a; zone = b; journal = w; port = n },
+      parts,
+      ap (λ (l : List Text). codes "page" ∷ l) s.0,
+      (s.1, is, j, p),
+      under_fits had port_option (values_of port_option parts) n p (under port_option),
+      refl,
+    )
+
+    go : (x : Said) (ks : Kinds) (rows : List Row) → Says page_grammar (codes "page") page_rules page_built page_apart x (without_dashes rest)
+        → Comes page_grammar (codes "page") page_rules page_built page_apart x ks rows → AreWordsOf (page_asked x) (codes "page" ∷ rest)
+    go (all_of parts) ks rows s h = made parts h.0 s h.1.2 (plain_words parts) (values_of journal_option parts) (values_of port_option parts) refl refl refl
     go help_wanted ks rows s h = tt
     go not_taken ks rows s h = tt
 
@@ -401,6 +433,7 @@ allowed_too (explain e) ws h = go (is_some e.day) refl
     go : (fits : Bool) → is_some e.day ≡ fits → AreWordsOf (allowed (explain e)) ws
     go true is = rw is h
     go false is = rw is tt
+allowed_too (page p) ws h = h
 allowed_too (replay a b files) ws h = h
 allowed_too (serve s) ws h = go (is_whole s) refl
   where
@@ -417,8 +450,8 @@ allowed_too words.usage ws h = tt
 said_in_order : (ws : List Text) → AreWordsOf (words_ask ws) (drop 1 ws)
 said_in_order [] = tt
 said_in_order (name ∷ []) = tt
-said_in_order (name ∷ word ∷ rest) = by_program (λ (w : Text). AreWordsOf (program_asked w rest) (w ∷ rest)) word (after_run rest) (after_check rest) (after_statement rest) (after_explain rest) (after_replay rest) (after_serve rest) (after_audit rest) (after_rebuild rest) tt
-    (λ none. rw (none.0, none.1, none.2, none.3, none.4, none.5, none.6, none.7, none.8) (after_other (word_kind word) (word ∷ rest)))
+said_in_order (name ∷ word ∷ rest) = by_program (λ (w : Text). AreWordsOf (program_asked w rest) (w ∷ rest)) word (after_run rest) (after_check rest) (after_statement rest) (after_explain rest) (after_page rest) (after_replay rest) (after_serve rest) (after_audit rest) (after_rebuild rest) tt
+    (λ none. rw (none.0, none.1, none.2, none.3, none.4, none.5, none.6, none.7, none.8, none.9) (after_other (word_kind word) (word ∷ rest)))
 
 -- but for the first, and for a `--`, the words are those of the job
 pub in_order : (ws : List Text) → AreWordsOf (asked ws) (drop 1 ws)
@@ -625,6 +658,45 @@ pub asks_explain : (ws : List Text) (name : Text) (t : ExplainTexts) (parts : Li
 asks_explain ws name t parts is are may f z n d = ap asked is
     ∙ (ap (λ (x : Said). allowed (explain_asked x)) (parts_taken explain_grammar parts (explain_taken t parts are f z n d) may)
     ∙ (ap allowed (explain_is t parts are) ∙ (rw d refl)))
+
+module _ (t : PageTexts) (parts : List Part) (are : ArePageParts t parts) (fits : is_port t.port ≡ true) where
+  none_of_page : (k : Setting) → (IsOption page_grammar k → ⊥) → Once k (values_of k parts)
+  none_of_page k none = subst (Once k) (sym (no_values page_grammar k none parts are.0)) tt
+
+  page_once : (k : Setting) → Once k (values_of k parts)
+  page_once port_option = subst (Once port_option) (sym are.3) fits
+  page_once lanes_option = none_of_page lanes_option (λ e. cc)
+  page_once shards_option = none_of_page shards_option (λ e. cc)
+  page_once sessions_option = none_of_page sessions_option (λ e. cc)
+  page_once close_option = none_of_page close_option (λ e. cc)
+  page_once control_option = none_of_page control_option (λ e. cc)
+  page_once ahead_option = none_of_page ahead_option (λ e. cc)
+  page_once refused_option = none_of_page refused_option (λ e. cc)
+  page_once greeting_option = none_of_page greeting_option (λ e. cc)
+  page_once journal_option = subst (Once journal_option) (sym are.2) refl
+  page_once sync_option = none_of_page sync_option (λ e. cc)
+  page_once ledger_option = none_of_page ledger_option (λ e. cc)
+  page_once early_option = none_of_page early_option (λ e. cc)
+  page_once lint_option = none_of_page lint_option (λ e. cc)
+  page_once against_option = none_of_page against_option (λ e. cc)
+  page_once after_option = none_of_page after_option (λ e. cc)
+  page_once week_option = none_of_page week_option (λ e. cc)
+
+  page_taken : slice_index t.fares 0 ≢ 45 → slice_index t.zone 0 ≢ 45 → AreTaken page_grammar parts
+  page_taken f z = record {
+    are = are.0;
+    fits = subst (Fits page_grammar.places) (sym are.1) (refl, (refl, tt));
+    hyphens = subst HaveNoHyphens (sym are.1) (f, (z, tt));
+    once = page_once;
+  }
+
+  page_is : page_asked (all_of parts) ≡ page (page_of_texts t)
+  page_is = rw (are.1, are.2, are.3) refl
+
+pub asks_page : (ws : List Text) (name : Text) (t : PageTexts) (parts : List Part) → ws ≡ name ∷ codes "page" ∷ words_of_parts parts → ArePageParts t parts → StandApart parts
+    → slice_index t.fares 0 ≢ 45 → slice_index t.zone 0 ≢ 45 → is_port t.port ≡ true → asked ws ≡ page (page_of_texts t)
+asks_page ws name t parts is are may f z n = ap asked is
+    ∙ (ap (λ (x : Said). allowed (page_asked x)) (parts_taken page_grammar parts (page_taken t parts are n f z) may) ∙ ap allowed (page_is t parts are n))
 
 many_values : (vs : List Text) → HaveNoHyphens vs → many_given vs ≡ values vs
 many_values [] h = refl

@@ -15,6 +15,7 @@ mod WordsAfterAudit
 mod WordsAfterCheck
 mod WordsAfterExplain
 mod WordsAfterOptions
+mod WordsAfterPage
 mod WordsAfterRebuild
 mod WordsAfterReplay
 mod WordsAfterRun

@@ -5,12 +5,13 @@ use Rattle.clap.specs.Simple.{subcommand_of}
 use Rattle.clap.specs.Kinds.{Kinds}
 use Rattle.clap.specs.Faults.{fault_of}
 use Rattle.clap.specs.declared.error.kind.ErrorKind.TheVariants.{DisplayHelp, DisplayVersion, InvalidSubcommand, OutOfMemory}
-use Rattle.pay_words.specs.Asked.{Asked, HaveNoHyphens, IsAnswer, IsJobOrMemory, allowed, asked, check_job, number_of, run, check, statement, explain, replay, serve, audit, rebuild, words_ask, help_asked, help_named, version_asked, usage, IsFaultOf, job_asked, AreJobWords, IsJobInRange, without_dashes}
+use Rattle.pay_words.specs.Asked.{Asked, HaveNoHyphens, IsAnswer, IsJobOrMemory, allowed, asked, check_job, number_of, run, check, statement, explain, page, replay, serve, audit, rebuild, words_ask, help_asked, help_named, version_asked, usage, IsFaultOf, job_asked, AreJobWords, IsJobInRange, without_dashes}
 use Rattle.pay_words.specs.Options.{Part, StandApart, words_of_parts}
 use Rattle.pay_words.specs.Audit.{AreAuditParts, Audit}
 use Rattle.pay_words.specs.Check.{AreCheckParts, Check, CheckTexts, check_of_texts, has_after_day, has_against, may_check}
 use Rattle.pay_words.specs.Explain.{AreExplainParts, Explain, ExplainTexts, explain_of_texts}
 use Rattle.pay_words.specs.Greeting.{is_greeting}
+use Rattle.pay_words.specs.Page.{ArePageParts, Page, PageTexts, page_of_texts}
 use Rattle.pay_words.specs.Run.{AreRunParts, Run, has_journal}
 use Rattle.pay_words.specs.Serve.{AreInRange, ArePartsOf, Serve, ServeTexts, is_whole, last_port, numbers_of}
 use Rattle.pay_words.specs.Statement.{AreStatementParts, Statement, StatementTexts, statement_of_texts}
@@ -30,16 +31,16 @@ use Rattle.std.specs.Prelude.{IfSome, IsOkAnd, ⊤, is_some}
 use Rattle.pay_day.specs.Words.{IsDay}
 use Rattle.pay_dates.specs.Words.{day_of_text}
 use Rattle.pay_dates.proofs.ServiceDays.{day_is_day}
-use Rattle.pay_words.specs.OneWord.{is_account}
+use Rattle.pay_words.specs.OneWord.{is_account, is_port}
 use Rattle.pay_words.specs.declared.words.Job.{Job}
-use Rattle.pay_words.specs.declared.words.Job.TheVariants.{Run as RunJob, Check as CheckJob, Statement as StatementJob, Explain as ExplainJob, Replay, Serve as ServeJob, Stay as StayJob, Audit as AuditJob, Rebuild}
+use Rattle.pay_words.specs.declared.words.Job.TheVariants.{Run as RunJob, Check as CheckJob, Statement as StatementJob, Explain as ExplainJob, Page as PageJob, Replay, Serve as ServeJob, Stay as StayJob, Audit as AuditJob, Rebuild}
 use Rattle.pay_words.specs.declared.words.WordsFault.{WordsFault}
 use Rattle.pay_words.specs.declared.words.WordsFault.TheVariants.{Help, Version, Usage, Memory}
-use Rattle.pay_words.specs.CommandLine.{GivesAudit, GivesCheck, GivesExplain, GivesRebuild, GivesReplay, GivesRun, GivesServe, GivesStatement, HasAudit, HasCheckTexts, HasExplainTexts, HasFaresAndLedger, HasRun, HasServeTexts, HasStatementTexts, IsFaultOfKind, IsHelpOrMemory, IsVersionOrMemory, farebox_app, values_and_files}
+use Rattle.pay_words.specs.CommandLine.{GivesAudit, GivesCheck, GivesExplain, GivesPage, GivesRebuild, GivesReplay, GivesRun, GivesServe, GivesStatement, HasAudit, HasCheckTexts, HasExplainTexts, HasFaresAndLedger, HasPageTexts, HasRun, HasServeTexts, HasStatementTexts, IsFaultOfKind, IsHelpOrMemory, IsVersionOrMemory, farebox_app, values_and_files}
 use Rattle.pay_words.proofs.WordKinds.{Refuses, is_refusal}
 use Rattle.pay_words.proofs.WordsOfProgram.{Comes}
 use Rattle.pay_words.proofs.WordsAsked.{comes}
-use Rattle.pay_words.proofs.JobWords.{AreWordsOf, asks_audit, asks_check, asks_explain, asks_rebuild, asks_replay, asks_run, asks_serve, asks_statement, in_order}
+use Rattle.pay_words.proofs.JobWords.{AreWordsOf, asks_audit, asks_check, asks_explain, asks_page, asks_rebuild, asks_replay, asks_run, asks_serve, asks_statement, in_order}
 
 -- ---- a parse that succeeds
 
@@ -49,6 +50,7 @@ Gives m (run r) = GivesRun m r
 Gives m (check c) = GivesCheck m c
 Gives m (statement s) = GivesStatement m s
 Gives m (explain e) = GivesExplain m e
+Gives m (page p) = GivesPage m p
 Gives m (replay fares zone files) = GivesReplay m fares zone files
 Gives m (serve s) = GivesServe m s
 Gives m (audit a) = GivesAudit m a
@@ -64,6 +66,7 @@ matched ws m none has = go (words_ask ws) (comes ws)
     go (check c) h = (h.1.0, h.1.1, (has refl).1 ∙ h.1.2, h.1.3, h.1.4)
     go (statement s) h = (h.1.0, h.1.1, (has refl).1 ∙ h.1.2, h.1.3, h.1.4, h.1.5)
     go (explain e) h = (h.1.0, h.1.1, (has refl).1 ∙ h.1.2, h.1.3, h.1.4, h.1.5)
+    go (page p) h = (h.1.0, h.1.1, (has refl).1 ∙ h.1.2, h.1.3, h.1.4, h.1.5)
     go (replay a b files) h = ap (option_map values_and_files) ((has refl).1 ∙ h.1)
     go (serve s) h = (h.1.0, h.1.1, (has refl).1 ∙ h.1.2, h.1.3, h.1.4, h.1.5)
     go (audit a) h = (h.1.0, (has refl).1 ∙ h.1.1, h.1.2)
@@ -123,6 +126,7 @@ refused_as ws k fault (inr among) is = go (words_ask ws) (comes ws)
     go (check a) h = absurd (subst (IsAmong k) h.0 among)
     go (statement s) h = absurd (subst (IsAmong k) h.0 among)
     go (explain e) h = absurd (subst (IsAmong k) h.0 among)
+    go (page p) h = absurd (subst (IsAmong k) h.0 among)
     go (replay a b files) h = absurd (subst (IsAmong k) h.0 among)
     go (serve s) h = absurd (subst (IsAmong k) h.0 among)
     go (audit a) h = absurd (subst (IsAmong k) h.0 among)
@@ -197,6 +201,19 @@ explain_texts m f e same gives =
       first_value-rows f (codes "journal") ∙ (ap (first_of (codes "journal")) rows_are ∙ h.4),
       first_value-rows f (codes "ledger") ∙ (ap (first_of (codes "ledger")) rows_are ∙ h.5),
       one_text-rows f (codes "week") ∙ (ap (one_of (codes "week")) rows_are ∙ h.6),
+    )
+
+-- the matches of `page` have the words that it is given
+pub page_texts : (m : ArgMatches) (f : Found) (p : Page) → Some (rows_of f) ≡ option_map (λ p. p.1) (subcommand_rows_of m) → (gives : GivesPage m p)
+    → HasPageTexts f gives.0
+page_texts m f p same gives =
+    let some : Some (rows_of f) ≡ Some gives.1 = same ∙ ap (option_map (λ p. p.1)) gives.2 in
+    let rows_are : rows_of f ≡ gives.1 = cc in
+    let h = gives.3 in (
+      first_value-rows f (codes "FARES") ∙ (ap (first_of (codes "FARES")) rows_are ∙ h.0),
+      first_value-rows f (codes "ZONE") ∙ (ap (first_of (codes "ZONE")) rows_are ∙ h.1),
+      first_value-rows f (codes "journal") ∙ (ap (first_of (codes "journal")) rows_are ∙ h.2),
+      one_text-rows f (codes "port") ∙ (ap (one_of (codes "port")) rows_are ∙ h.3),
     )
 
 -- the matches of `replay` have its values
@@ -285,6 +302,7 @@ pub record ReadsJobs (m : ArgMatches) (r : Result Job WordsFault) : Type 0 where
   pub of_check : (c : Check) → GivesCheck m c → IsAnswer (allowed (check c)) r
   pub of_statement : (s : Statement) → GivesStatement m s → IsAnswer (allowed (statement s)) r
   pub of_explain : (e : Explain) → GivesExplain m e → IsAnswer (allowed (explain e)) r
+  pub of_page : (p : Page) → GivesPage m p → IsOkAnd r (λ job. job_asked job ≡ page p)
   pub of_replay : (fares zone : Text) (files : List Text) → GivesReplay m fares zone files → IsJobOrMemory (replay fares zone files) r
   pub of_serve : (s : Serve) → GivesServe m s → IsAnswer (allowed (serve s)) r
   pub of_audit : (a : Audit) → GivesAudit m a → IsOkAnd r (λ job. job_asked job ≡ audit a)
@@ -295,6 +313,7 @@ job_read m (run y) r h reads = answer_answers (allowed (run y)) r (reads.of_run 
 job_read m (check c) r h reads = answer_answers (allowed (check c)) r (reads.of_check c h)
 job_read m (statement s) r h reads = answer_answers (allowed (statement s)) r (reads.of_statement s h)
 job_read m (explain e) r h reads = answer_answers (allowed (explain e)) r (reads.of_explain e h)
+job_read m (page p) r h reads = job_answers (page p) r (reads.of_page p h)
 job_read m (replay a b files) r h reads = memory_answers (replay a b files) r (reads.of_replay a b files h)
 job_read m (serve s) r h reads = answer_answers (allowed (serve s)) r (reads.of_serve s h)
 job_read m (audit a) r h reads = job_answers (audit a) r (reads.of_audit a h)
@@ -309,6 +328,7 @@ job_words_are ws (RunJob w) e = subst (λ (x : Asked). AreWordsOf x (drop 1 ws))
 job_words_are ws (CheckJob w) e = subst (λ (x : Asked). AreWordsOf x (drop 1 ws)) e (in_order ws)
 job_words_are ws (StatementJob w) e = subst (λ (x : Asked). AreWordsOf x (drop 1 ws)) e (in_order ws)
 job_words_are ws (ExplainJob w) e = subst (λ (x : Asked). AreWordsOf x (drop 1 ws)) e (in_order ws)
+job_words_are ws (PageJob w) e = subst (λ (x : Asked). AreWordsOf x (drop 1 ws)) e (in_order ws)
 job_words_are ws (Replay w) e = (subst (λ (x : Asked). AreWordsOf x (drop 1 ws)) e (in_order ws)).0
 job_words_are ws (ServeJob w) e = subst (λ (x : Asked). AreWordsOf x (drop 1 ws)) e (in_order ws)
 job_words_are ws (StayJob w) e = subst (λ (x : Asked). AreWordsOf x (drop 1 ws)) e (in_order ws)
@@ -366,6 +386,7 @@ asked_is_allowed (explain e) = go (is_some e.day) refl
     go : (t : Bool) → is_some e.day ≡ t → IsAllowed (allowed (explain e))
     go true is = rw is is
     go false is = rw is tt
+asked_is_allowed (page p) = tt
 asked_is_allowed (replay a b files) = tt
 asked_is_allowed (audit a) = tt
 asked_is_allowed (rebuild fares ledger) = tt
@@ -427,6 +448,9 @@ job_in_range ws (ExplainJob w) e =
     let made = job_words_are ws (ExplainJob w) e in
     let account = number_in_range 1 4_294_967_295 made.0.account w.account made.4 (ap (λ (x : Explain). x.account) made.5) in
     (account.0, account.1, day_is_day made.0.day w.day (ap (λ (x : Explain). x.day) made.5))
+job_in_range ws (PageJob w) e =
+    let made = job_words_are ws (PageJob w) e in
+    number_in_range 1 65_535 made.0.port w.port made.4 (ap (λ (p : Page). p.port) made.5)
 job_in_range ws (Replay w) e = (subst (λ (x : Asked). AreWordsOf x (drop 1 ws)) e (in_order ws)).1
 job_in_range ws (ServeJob w) e =
     let made = job_words_are ws (ServeJob w) e in
@@ -489,6 +513,10 @@ module _ (r : Result Job WordsFault) (ws : List Text) (ok : IfOk r (λ job. aske
   pub result_explain : (name : Text) (t : ExplainTexts) (parts : List Part) → ws ≡ name ∷ codes "explain" ∷ words_of_parts parts → AreExplainParts t parts → StandApart parts
       → slice_index t.fares 0 ≢ 45 → slice_index t.zone 0 ≢ 45 → is_account t.account ≡ true → is_some (day_of_text t.day) ≡ true → IsJobOrMemory (explain (explain_of_texts t)) r
   result_explain name t parts is are may f z n d = job_or_memory r ws (explain (explain_of_texts t)) ok err (asks_explain ws name t parts is are may f z n d) tt
+
+  pub result_page : (name : Text) (t : PageTexts) (parts : List Part) → ws ≡ name ∷ codes "page" ∷ words_of_parts parts → ArePageParts t parts → StandApart parts
+      → slice_index t.fares 0 ≢ 45 → slice_index t.zone 0 ≢ 45 → is_port t.port ≡ true → IsJobOrMemory (page (page_of_texts t)) r
+  result_page name t parts is are may f z n = job_or_memory r ws (page (page_of_texts t)) ok err (asks_page ws name t parts is are may f z n) tt
 
   pub result_replay : (name fares zone file : Text) (files : List Text) → ws ≡ name ∷ codes "replay" ∷ fares ∷ zone ∷ file ∷ files
       → slice_index fares 0 ≢ 45 → slice_index zone 0 ≢ 45 → HaveNoHyphens (file ∷ files) → IsJobOrMemory (replay fares zone (file ∷ files)) r

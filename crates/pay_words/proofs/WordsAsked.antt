@@ -6,12 +6,13 @@ use Rattle.clap.specs.Simple.{App, Shape, built, built_leaf, entered, help_shape
 use Rattle.clap.specs.Kinds.{Kinds, or_else}
 use Rattle.clap.specs.Faults.{check_fault, defaults_fault, entered_fault, fault_of, flags_fault, settle_fault, turn_fault, walk_fault}
 use Rattle.clap.specs.declared.error.kind.ErrorKind.TheVariants.{DisplayHelp, DisplayVersion, InvalidSubcommand, UnknownArgument}
-use Rattle.pay_words.specs.Asked.{Asked, Word, words_ask, check_asked, many_given, word_kind, option_asked, program_asked, audit_asked, explain_asked, rebuild_asked, replay_asked, run_asked, serve_asked, statement_asked}
+use Rattle.pay_words.specs.Asked.{Asked, Word, words_ask, check_asked, many_given, word_kind, option_asked, program_asked, audit_asked, explain_asked, page_asked, rebuild_asked, replay_asked, run_asked, serve_asked, statement_asked}
 use Rattle.pay_words.specs.Asked as words
 use Rattle.pay_words.specs.Options.{all_said}
 use Rattle.pay_words.specs.Audit.{audit_grammar}
 use Rattle.pay_words.specs.Check.{check_grammar}
 use Rattle.pay_words.specs.Explain.{explain_grammar}
+use Rattle.pay_words.specs.Page.{page_grammar}
 use Rattle.pay_words.specs.Rebuild.{rebuild_grammar}
 use Rattle.pay_words.specs.Run.{run_grammar}
 use Rattle.pay_words.specs.Serve.{serve_grammar}
@@ -24,6 +25,7 @@ use Rattle.pay_words.proofs.WordsOfProgram.{Comes}
 use Rattle.pay_words.proofs.WordsAfterAudit.{audit_ends, audit_shape}
 use Rattle.pay_words.proofs.WordsAfterCheck.{check_ends, check_shape}
 use Rattle.pay_words.proofs.WordsAfterExplain.{explain_ends, explain_shape}
+use Rattle.pay_words.proofs.WordsAfterPage.{page_ends, page_shape}
 use Rattle.pay_words.proofs.WordsAfterRebuild.{rebuild_ends, rebuild_shape}
 use Rattle.pay_words.proofs.WordsAfterReplay.{replay_ends, replay_shape}
 use Rattle.pay_words.proofs.WordsAfterRun.{run_ends, run_shape}
@@ -37,13 +39,13 @@ abbrev help_built : Shape
 help_built = built_leaf (record help_shape { disable_help_subcommand = true })
 
 abbrev farebox_built : App
-farebox_built = record { top = top_shape; subs = run_shape ∷ check_shape ∷ statement_shape ∷ explain_shape ∷ replay_shape ∷ serve_shape ∷ audit_shape ∷ rebuild_shape ∷ help_built ∷ [] }
+farebox_built = record { top = top_shape; subs = run_shape ∷ check_shape ∷ statement_shape ∷ explain_shape ∷ page_shape ∷ replay_shape ∷ serve_shape ∷ audit_shape ∷ rebuild_shape ∷ help_built ∷ [] }
 
 built_farebox : built farebox_app ≡ farebox_built
 built_farebox = refl
 
 abbrev names : Names
-names = (codes "run", []) ∷ (codes "check", []) ∷ (codes "statement", []) ∷ (codes "explain", []) ∷ (codes "replay", []) ∷ (codes "serve", []) ∷ (codes "audit", []) ∷ (codes "rebuild", []) ∷ (codes "help", []) ∷ []
+names = (codes "run", []) ∷ (codes "check", []) ∷ (codes "statement", []) ∷ (codes "explain", []) ∷ (codes "page", []) ∷ (codes "replay", []) ∷ (codes "serve", []) ∷ (codes "audit", []) ∷ (codes "rebuild", []) ∷ (codes "help", []) ∷ []
 
 top_long : LongOptions top_shape.rules true
 top_long name = refl
@@ -134,6 +136,14 @@ explain_entered : (rest : List Text) → entered farebox_built (end_of start (co
 unfolding walked
 explain_entered rest = ap (λ (w : Walk). entered farebox_built w.stopped) (met_words (codes "explain") [] rest)
 
+met_page : (rest : List Text) → whole start (codes "page" ∷ rest) ≡ below page_shape rest
+unfolding walked walk_fault defaults_fault
+met_page rest = ap₂ end_kinds (no_kinds (codes "page") [] rest) (met_words (codes "page") [] rest) ∙ or_nothing (below page_shape rest)
+
+page_entered : (rest : List Text) → entered farebox_built (end_of start (codes "page" ∷ rest)).stopped ≡ Some (codes "page", rows_below page_shape rest)
+unfolding walked
+page_entered rest = ap (λ (w : Walk). entered farebox_built w.stopped) (met_words (codes "page") [] rest)
+
 met_replay : (rest : List Text) → whole start (codes "replay" ∷ rest) ≡ below replay_shape rest
 unfolding walked walk_fault defaults_fault
 met_replay rest = ap₂ end_kinds (no_kinds (codes "replay") [] rest) (met_words (codes "replay") [] rest) ∙ or_nothing (below replay_shape rest)
@@ -187,6 +197,10 @@ explain_comes : (name : Text) (rest : List Text)
     → Comes (explain_asked (all_said explain_grammar rest)) (fault_of farebox_app (name ∷ codes "explain" ∷ rest)) (subcommand_of farebox_app (name ∷ codes "explain" ∷ rest))
 explain_comes name rest = lifted (explain_asked (all_said explain_grammar rest)) (below explain_shape rest) _ (Some (codes "explain", rows_below explain_shape rest)) _
     (fault_is name (codes "explain" ∷ rest) ∙ met_explain rest) (subcommand_is name (codes "explain" ∷ rest) ∙ explain_entered rest) (explain_ends rest)
+
+page_comes : (name : Text) (rest : List Text) → Comes (page_asked (all_said page_grammar rest)) (fault_of farebox_app (name ∷ codes "page" ∷ rest)) (subcommand_of farebox_app (name ∷ codes "page" ∷ rest))
+page_comes name rest = lifted (page_asked (all_said page_grammar rest)) (below page_shape rest) _ (Some (codes "page", rows_below page_shape rest)) _
+    (fault_is name (codes "page" ∷ rest) ∙ met_page rest) (subcommand_is name (codes "page" ∷ rest) ∙ page_entered rest) (page_ends rest)
 
 replay_comes : (name : Text) (rest : List Text) → Comes (replay_asked (many_given rest)) (fault_of farebox_app (name ∷ codes "replay" ∷ rest)) (subcommand_of farebox_app (name ∷ codes "replay" ∷ rest))
 replay_comes name rest = lifted (replay_asked (many_given rest)) (below replay_shape rest) _ (Some (codes "replay", rows_below replay_shape rest)) _
@@ -251,8 +265,8 @@ unfolding walk_fault flags_fault walked defaults_fault
 comes [] = refl
 comes (name ∷ []) = refl
 comes (name ∷ word ∷ rest) = by_program (λ (w : Text). Comes (program_asked w rest) (fault_of farebox_app (name ∷ w ∷ rest)) (subcommand_of farebox_app (name ∷ w ∷ rest)))
-    word (run_comes name rest) (check_comes name rest) (statement_comes name rest) (explain_comes name rest) (replay_comes name rest) (serve_comes name rest) (audit_comes name rest) (rebuild_comes name rest) refl (λ none.
-    let unmet : subcommand_met names idle word ≡ None = rw (none.0, none.1, none.2, none.3, none.4, none.5, none.6, none.7, none.8) refl in
-    let asks : program_asked word rest ≡ option_asked (word_kind word) = rw (none.0, none.1, none.2, none.3, none.4, none.5, none.6, none.7, none.8) refl in
+    word (run_comes name rest) (check_comes name rest) (statement_comes name rest) (explain_comes name rest) (page_comes name rest) (replay_comes name rest) (serve_comes name rest) (audit_comes name rest) (rebuild_comes name rest) refl (λ none.
+    let unmet : subcommand_met names idle word ≡ None = rw (none.0, none.1, none.2, none.3, none.4, none.5, none.6, none.7, none.8, none.9) refl in
+    let asks : program_asked word rest ≡ option_asked (word_kind word) = rw (none.0, none.1, none.2, none.3, none.4, none.5, none.6, none.7, none.8, none.9) refl in
     subst (λ (x : Asked). Comes x (fault_of farebox_app (name ∷ word ∷ rest)) (subcommand_of farebox_app (name ∷ word ∷ rest))) (sym asks)
     (option_comes name word rest unmet (word_kind word) (reads top_shape.rules true top_long top_short [] [] None refl word)))

@@ -9,16 +9,17 @@ use Rattle.clap.specs.declared.builder.range.ValueRange.{ValueRange}
 use Rattle.clap.specs.declared.builder.value_parser.ValueParser.TheVariants as vp
 use Rattle.clap.specs.declared.error.kind.ErrorKind.TheVariants.{DisplayHelp, DisplayVersion, InvalidSubcommand}
 use Rattle.clap.specs.declared.parser.matches.ValueSource.TheVariants.{CommandLine}
-use Rattle.pay_words.specs.Asked.{Asked, Word, run, check, statement, explain, replay, serve, audit, rebuild, help_asked, help_named, version_asked, usage}
+use Rattle.pay_words.specs.Asked.{Asked, Word, run, check, statement, explain, page, replay, serve, audit, rebuild, help_asked, help_named, version_asked, usage}
 use Rattle.pay_words.specs.Asked as words
 use Rattle.pay_words.specs.Audit.{Audit}
 use Rattle.pay_words.specs.Check.{Check, CheckTexts, check_of_texts}
 use Rattle.pay_words.specs.Explain.{Explain, ExplainTexts, explain_of_texts}
-use Rattle.pay_words.specs.OneWord.{is_account}
+use Rattle.pay_words.specs.OneWord.{is_account, is_port}
+use Rattle.pay_words.specs.Page.{Page, PageTexts, page_of_texts}
 use Rattle.pay_words.specs.Run.{Run}
 use Rattle.pay_words.specs.Serve.{AreInRange, Serve, ServeTexts, numbers_of}
 use Rattle.pay_words.specs.Statement.{Statement, StatementTexts, statement_of_texts}
-use Rattle.pay_words.specs.CommandLine.{HaveAudit, HaveCheckTexts, HaveExplainTexts, HaveFaresAndLedger, HaveRun, HaveServeTexts, HaveStatementTexts, required_word}
+use Rattle.pay_words.specs.CommandLine.{HaveAudit, HaveCheckTexts, HaveExplainTexts, HaveFaresAndLedger, HavePageTexts, HaveRun, HaveServeTexts, HaveStatementTexts, required_word}
 use Rattle.pay_words.proofs.WordKinds.{LongOptions, Reads, Refuses, ShortOptions}
 use Rattle.pay_words.proofs.WordLevels.{Level, level_next, level_refuses, level_shows, place, rows_from, rows_next, turn_dashes, turn_refuses, turn_shows, turn_value, walked_dashes, walked_value}
 
@@ -75,6 +76,10 @@ ComesWithNumbers s sub = (t : StatementTexts) × (rows : List Row) × (sub ≡ S
 abbrev pub ComesWithJournal : Explain → Option (Text × List Row) → Type 0
 ComesWithJournal e sub = (t : ExplainTexts) × (rows : List Row) × (sub ≡ Some (codes "explain", rows)) × HaveExplainTexts rows t × (is_account t.account ≡ true) × (explain_of_texts t ≡ e)
 
+-- the matches are of words that `page` is given, of these values
+abbrev pub ComesWithPort : Page → Option (Text × List Row) → Type 0
+ComesWithPort p sub = (t : PageTexts) × (rows : List Row) × (sub ≡ Some (codes "page", rows)) × HavePageTexts rows t × (is_port t.port ≡ true) × (page_of_texts t ≡ p)
+
 -- the matches are of words that `serve` is given, of these numbers
 abbrev pub ComesWithOptions : Serve → Option (Text × List Row) → Type 0
 ComesWithOptions s sub = (t : ServeTexts) × (rows : List Row) × (sub ≡ Some (codes "serve", rows)) × HaveServeTexts rows t × AreInRange t × (numbers_of t ≡ s)
@@ -93,6 +98,7 @@ Comes (run r) ks sub = (ks ≡ []) × ComesWithRun r sub
 Comes (check c) ks sub = (ks ≡ []) × ComesWithCheck c sub
 Comes (statement s) ks sub = (ks ≡ []) × ComesWithNumbers s sub
 Comes (explain e) ks sub = (ks ≡ []) × ComesWithJournal e sub
+Comes (page p) ks sub = (ks ≡ []) × ComesWithPort p sub
 Comes (replay a b files) ks sub = (ks ≡ []) × (sub ≡ Some (codes "replay", replay_rows a b files))
 Comes (serve s) ks sub = (ks ≡ []) × ComesWithOptions s sub
 Comes (audit a) ks sub = (ks ≡ []) × ComesWithAudit a sub

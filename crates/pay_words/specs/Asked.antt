@@ -8,11 +8,12 @@ use Rattle.pay_dates.specs.Words.{day_of_text}
 use Rattle.pay_dates.proofs.OnLiterals.{day_on_literals}
 use Rattle.pay_day.specs.Words.{IsDay}
 use Rattle.pay_words.specs.declared.words.Job.{Job}
-use Rattle.pay_words.specs.declared.words.Job.TheVariants.{Run as RunJob, Check as CheckJob, Statement as StatementJob, Explain as ExplainJob, Replay, Serve as ServeJob, Stay as StayJob, Audit as AuditJob, Rebuild}
+use Rattle.pay_words.specs.declared.words.Job.TheVariants.{Run as RunJob, Check as CheckJob, Statement as StatementJob, Explain as ExplainJob, Page as PageJob, Replay, Serve as ServeJob, Stay as StayJob, Audit as AuditJob, Rebuild}
 use Rattle.pay_words.specs.declared.words.RunWords.{RunWords}
 use Rattle.pay_words.specs.declared.words.CheckWords.{CheckWords}
 use Rattle.pay_words.specs.declared.words.StatementWords.{StatementWords}
 use Rattle.pay_words.specs.declared.words.ExplainWords.{ExplainWords}
+use Rattle.pay_words.specs.declared.words.PageWords.{PageWords}
 use Rattle.pay_words.specs.declared.words.ServeWords.{ServeWords}
 use Rattle.pay_words.specs.declared.words.StayWords.{StayWords}
 use Rattle.pay_words.specs.declared.words.Service.{Service}
@@ -21,7 +22,7 @@ use Rattle.pay_words.specs.declared.words.WordsFault.{WordsFault}
 use Rattle.pay_words.specs.declared.words.WordsFault.TheVariants.{Help, Version, Usage, Memory}
 use Rattle.pay_words.specs.declared.limits.TheConstants.{MOST_ACCOUNT, MOST_PORT, MOST_SERVED_LANES, MOST_STAYING_LANES, MOST_SHARDS, MOST_SESSIONS, MOST_AHEAD}
 pub use Rattle.pay_words.specs.OneWord.{Text, Word, value, dashes, call_for_help, call_for_version, option, word_kind}
-pub use Rattle.pay_words.specs.OneWord.{Reader, any_text, is_account, number_of}
+pub use Rattle.pay_words.specs.OneWord.{Reader, any_text, is_account, is_port, number_of}
 pub use Rattle.pay_words.specs.Options.{HasNoHyphen}
 use Rattle.pay_words.specs.Options.{Part, Said, StandApart, all_of, all_said, help_wanted, not_taken, plain, apart, joined, plain_words, values_of, words_of_parts}
 use Rattle.pay_words.specs.Options.{port_option, lanes_option, shards_option, sessions_option, close_option, control_option, ahead_option, refused_option, greeting_option, journal_option, sync_option, ledger_option, early_option}
@@ -30,6 +31,7 @@ use Rattle.pay_words.specs.Audit.{AreAuditParts, Audit, audit_grammar}
 use Rattle.pay_words.specs.Check.{AreCheckParts, Check, CheckTexts, check_grammar, check_of_texts, has_against, may_check}
 use Rattle.pay_words.specs.Explain.{AreExplainParts, Explain, ExplainTexts, explain_grammar, explain_of_texts}
 use Rattle.pay_words.specs.Greeting.{is_greeting}
+use Rattle.pay_words.specs.Page.{ArePageParts, Page, PageTexts, page_grammar, page_of_texts}
 use Rattle.pay_words.specs.Rebuild.{rebuild_grammar}
 use Rattle.pay_words.specs.Run.{AreRunParts, Run, first_given, has_journal, is_given, run_grammar}
 use Rattle.pay_words.specs.Serve.{AreInRange, ArePartsOf, Serve, ServeTexts, is_whole, last_port, numbers_of, serve_grammar}
@@ -73,6 +75,8 @@ pub data Asked : Type 0 where
   statement : Statement → Asked
   -- `explain` with its fare file, zone, account and day, and the values of its options
   explain : Explain → Asked
+  -- `page` with its fare file and zone, and the values of its options
+  page : Page → Asked
   -- `replay` with its fare file, zone and journals
   replay : Text → Text → List Text → Asked
   -- `serve` with its fare file, zone and the values of its options
@@ -162,6 +166,22 @@ explain_asked (all_of parts) = explain_of (plain_words parts) (values_of journal
 explain_asked help_wanted = help_asked
 explain_asked not_taken = usage
 
+-- two values, one journal and one port
+abbrev pub page_of : List Text → List Text → List Text → Asked
+page_of (fares ∷ zone ∷ []) (j ∷ []) (p ∷ []) = page (page_of_texts (record {
+  fares = fares;
+  zone = zone;
+  journal = j;
+  port = p;
+}))
+page_of _ _ _ = usage
+
+-- `page FARES ZONE` and its options
+abbrev pub page_asked : Said → Asked
+page_asked (all_of parts) = page_of (plain_words parts) (values_of journal_option parts) (values_of port_option parts)
+page_asked help_wanted = help_asked
+page_asked not_taken = usage
+
 -- `replay FARES ZONE FILE..`
 abbrev pub replay_asked : Given → Asked
 replay_asked (values (fares ∷ zone ∷ file ∷ files)) = replay fares zone (file ∷ files)
@@ -233,12 +253,13 @@ program_asked program rest = if bytes_eq (codes "run") program then run_asked (a
     else (if bytes_eq (codes "check") program then check_asked (all_said check_grammar rest)
     else (if bytes_eq (codes "statement") program then statement_asked (all_said statement_grammar rest)
     else (if bytes_eq (codes "explain") program then explain_asked (all_said explain_grammar rest)
+    else (if bytes_eq (codes "page") program then page_asked (all_said page_grammar rest)
     else (if bytes_eq (codes "replay") program then replay_asked (many_given rest)
     else (if bytes_eq (codes "serve") program then serve_asked (all_said serve_grammar rest)
     else (if bytes_eq (codes "audit") program then audit_asked (all_said audit_grammar rest)
     else (if bytes_eq (codes "rebuild") program then rebuild_asked (all_said rebuild_grammar rest)
     else (if bytes_eq (codes "help") program then help_named
-    else option_asked (word_kind program)))))))))
+    else option_asked (word_kind program))))))))))
 
 -- the first word is the program's own name, and the second names what it is to do
 abbrev pub words_ask : List Text → Asked
@@ -300,6 +321,14 @@ explain_job w = record {
   journal = w.journal.now;
   ledger = option_map (λ s. s.now) w.ledger;
   week = w.week;
+}
+
+abbrev pub page_job : PageWords → Page
+page_job w = record {
+  fares = w.fares.now;
+  zone = w.zone.now;
+  journal = w.journal.now;
+  port = w.port;
 }
 
 abbrev pub served_job : ServeWords → Serve
@@ -370,6 +399,7 @@ job_asked (RunJob w) = run (run_job w)
 job_asked (CheckJob w) = check (check_job w)
 job_asked (StatementJob w) = statement (statement_job w)
 job_asked (ExplainJob w) = explain (explain_job w)
+job_asked (PageJob w) = page (page_job w)
 job_asked (Replay w) = replay w.fares.now w.zone.now (texts w.files.items)
 job_asked (ServeJob w) = serve (served_job w)
 job_asked (StayJob w) = serve (staying_job w)
@@ -395,6 +425,11 @@ abbrev pub AreExplainWords : Explain → List Text → Type 0
 AreExplainWords e words = (t : ExplainTexts) × (parts : List Part) × (words ≡ codes "explain" ∷ words_of_parts parts)
     × AreExplainParts t parts × (is_account t.account ≡ true) × (explain_of_texts t ≡ e)
 
+-- the words of `page` do
+abbrev pub ArePageWords : Page → List Text → Type 0
+ArePageWords p words = (t : PageTexts) × (parts : List Part) × (words ≡ codes "page" ∷ words_of_parts parts)
+    × ArePageParts t parts × (is_port t.port ≡ true) × (page_of_texts t ≡ p)
+
 -- the words of `serve` do
 abbrev pub AreServeWords : Serve → List Text → Type 0
 AreServeWords s words = (t : ServeTexts) × (parts : List Part) × (words ≡ codes "serve" ∷ words_of_parts parts)
@@ -410,6 +445,7 @@ AreJobWords (RunJob w) words = AreRunWords (run_job w) words
 AreJobWords (CheckJob w) words = AreCheckWords (check_job w) words
 AreJobWords (StatementJob w) words = AreStatementWords (statement_job w) words
 AreJobWords (ExplainJob w) words = AreExplainWords (explain_job w) words
+AreJobWords (PageJob w) words = ArePageWords (page_job w) words
 AreJobWords (Replay w) words = words ≡ codes "replay" ∷ w.fares.now ∷ w.zone.now ∷ texts w.files.items
 AreJobWords (ServeJob w) words = AreServeWords (served_job w) words
 AreJobWords (StayJob w) words = AreServeWords (staying_job w) words
@@ -424,6 +460,7 @@ IsJobInRange (RunJob w) = has_journal (run_job w) ≡ true
 IsJobInRange (CheckJob w) = (has_against (check_job w) ≡ true) × IfSome w.after IsDay
 IsJobInRange (StatementJob w) = (1 ≤ w.account) × (w.account ≤ MOST_ACCOUNT) × IsDay w.day
 IsJobInRange (ExplainJob w) = (1 ≤ w.account) × (w.account ≤ MOST_ACCOUNT) × IsDay w.day
+IsJobInRange (PageJob w) = (1 ≤ w.port) × (w.port ≤ MOST_PORT)
 IsJobInRange (Replay w) = texts w.files.items ≢ []
 IsJobInRange (ServeJob w) = (1 ≤ w.port) × (1 ≤ w.lanes) × (w.lanes ≤ MOST_SERVED_LANES) × (last_port w.port w.lanes ≤ MOST_PORT)
     × (1 ≤ w.shards) × (w.shards ≤ MOST_SHARDS) × (1 ≤ w.sessions) × (w.sessions ≤ MOST_SESSIONS) × IsDay w.close
@@ -492,6 +529,13 @@ ExplainIsTaken words result = (name : Text) (t : ExplainTexts) (parts : List Par
     → AreExplainParts t parts → StandApart parts → HasNoHyphen t.fares → HasNoHyphen t.zone → is_account t.account ≡ true
     → is_some (day_of_text t.day) ≡ true
     → IsJobOrMemory (explain (explain_of_texts t)) result
+
+-- two words with no hyphen before them, and the journal and the port that are needed, in whatever order, are those of
+-- `page`
+abbrev pub PageIsTaken : List Text → Result Job WordsFault → Type 0
+PageIsTaken words result = (name : Text) (t : PageTexts) (parts : List Part) → words ≡ name ∷ codes "page" ∷ words_of_parts parts
+    → ArePageParts t parts → StandApart parts → HasNoHyphen t.fares → HasNoHyphen t.zone → is_port t.port ≡ true
+    → IsJobOrMemory (page (page_of_texts t)) result
 
 -- three words or more with no hyphen before them are the values of `replay`
 abbrev pub ReplayIsTaken : List Text → Result Job WordsFault → Type 0
@@ -1170,6 +1214,70 @@ ahead_of_run_row = refl
 control_of_run_row : row (codes "run" ∷ codes "a" ∷ codes "b" ∷ codes "--control=9100" ∷ []) ≡ usage
 unfolding chars
 control_of_run_row = refl
+
+abbrev page_words : List Text → List Text
+page_words options = codes "page" ∷ codes "a" ∷ codes "b" ∷ options
+
+abbrev plain_page : Page
+plain_page = record { fares = codes "a"; zone = codes "b"; journal = codes "j"; port = 8_080 }
+
+page_row : row (page_words (codes "--journal" ∷ codes "j" ∷ codes "--port" ∷ codes "8080" ∷ [])) ≡ page plain_page
+unfolding chars
+page_row = refl
+
+-- options before, between and after the values
+all_page_row : row (codes "page" ∷ codes "--port=+08080" ∷ codes "a" ∷ codes "--journal=-j" ∷ codes "--" ∷ codes "-b" ∷ [])
+    ≡ page (record plain_page { zone = codes "-b"; journal = codes "-j" })
+unfolding chars
+all_page_row = refl
+
+-- a journal is needed, and given once
+page_no_journal_row : row (page_words (codes "--port=8080" ∷ [])) ≡ usage
+unfolding chars
+page_no_journal_row = refl
+
+page_journal_twice_row : row (page_words (codes "--journal=j" ∷ codes "--port=8080" ∷ codes "--journal=k" ∷ [])) ≡ usage
+unfolding chars
+page_journal_twice_row = refl
+
+-- and so is a port
+page_no_port_row : row (page_words (codes "--journal=j" ∷ [])) ≡ usage
+unfolding chars
+page_no_port_row = refl
+
+page_port_twice_row : row (page_words (codes "--journal=j" ∷ codes "--port=8080" ∷ codes "--port=8081" ∷ [])) ≡ usage
+unfolding chars
+page_port_twice_row = refl
+
+-- from 1 to 65,535
+page_port_0_row : row (page_words (codes "--journal=j" ∷ codes "--port=0" ∷ [])) ≡ usage
+unfolding chars
+page_port_0_row = refl
+
+page_first_port_row : row (page_words (codes "--journal=j" ∷ codes "--port=1" ∷ [])) ≡ page (record plain_page { port = 1 })
+unfolding chars
+page_first_port_row = refl
+
+page_last_port_row : row (page_words (codes "--journal=j" ∷ codes "--port=65535" ∷ [])) ≡ page (record plain_page { port = 65_535 })
+unfolding chars
+page_last_port_row = refl
+
+page_beyond_ports_row : row (page_words (codes "--journal=j" ∷ codes "--port=65536" ∷ [])) ≡ usage
+unfolding chars
+page_beyond_ports_row = refl
+
+-- what was posted is not asked
+page_ledger_row : row (page_words (codes "--journal=j" ∷ codes "--port=8080" ∷ codes "--ledger=l" ∷ [])) ≡ usage
+unfolding chars
+page_ledger_row = refl
+
+page_zone_row : row (codes "page" ∷ codes "a" ∷ codes "--journal=j" ∷ codes "--port=8080" ∷ []) ≡ usage
+unfolding chars
+page_zone_row = refl
+
+page_help_row : row (codes "page" ∷ codes "--port=8080" ∷ codes "-h" ∷ []) ≡ help_asked
+unfolding chars
+page_help_row = refl
 
 abbrev plain_audit : Audit
 plain_audit = record { fares = codes "a"; zone = codes "b"; journal = codes "j"; ledger = None }

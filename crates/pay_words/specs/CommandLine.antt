@@ -19,7 +19,8 @@ use Rattle.pay_words.specs.Asked.{version_line}
 use Rattle.pay_words.specs.Audit.{Audit}
 use Rattle.pay_words.specs.Check.{Check, CheckTexts, check_of_texts}
 use Rattle.pay_words.specs.Explain.{Explain, ExplainTexts, explain_of_texts}
-use Rattle.pay_words.specs.OneWord.{is_account}
+use Rattle.pay_words.specs.OneWord.{is_account, is_port}
+use Rattle.pay_words.specs.Page.{Page, PageTexts, page_of_texts}
 use Rattle.pay_words.specs.Run.{Run}
 use Rattle.pay_words.specs.Serve.{AreInRange, Serve, ServeTexts, numbers_of}
 use Rattle.pay_words.specs.Statement.{Statement, StatementTexts, statement_of_texts}
@@ -90,6 +91,10 @@ abbrev pub explain_app : App
 explain_app = with_rule (with_rule (with_rule (with_account_and_day (new_app (codes "explain"))) (required_text (codes "journal")))
     (text_option (codes "ledger"))) (flag_option (codes "week"))
 
+-- `page FARES ZONE --journal PATH --port P`
+abbrev pub page_app : App
+page_app = with_rule (with_rule (with_fares_and_zone (new_app (codes "page"))) (required_text (codes "journal"))) (required_option (codes "port") 1 MOST_PORT)
+
 -- `replay FARES ZONE FILE..`
 abbrev pub replay_app : App
 replay_app = with_rule (with_fares_and_zone (new_app (codes "replay"))) (required_words (codes "FILE"))
@@ -123,10 +128,10 @@ rebuild_app = with_rule (with_rule (new_app (codes "rebuild")) (required_word (c
 
 -- the program, which has a version, and wants one of its programs named
 abbrev pub farebox_app : App
-farebox_app = with_subcommand (with_subcommand (with_subcommand (with_subcommand (with_subcommand (with_subcommand (with_subcommand (with_subcommand
+farebox_app = with_subcommand (with_subcommand (with_subcommand (with_subcommand (with_subcommand (with_subcommand (with_subcommand (with_subcommand (with_subcommand
     (on_top (λ top. record top { has_version = true; subcommand_required = true })
     (new_app (codes "farebox")))
-    run_app.top) check_app.top) statement_app.top) explain_app.top) replay_app.top) serve_app.top) audit_app.top) rebuild_app.top
+    run_app.top) check_app.top) statement_app.top) explain_app.top) page_app.top) replay_app.top) serve_app.top) audit_app.top) rebuild_app.top
 
 -- ---- the matches
 
@@ -200,6 +205,21 @@ HasExplainTexts f t = (first_value f (codes "FARES") ≡ Some t.fares) × (first
     × (one_text f (codes "ACCOUNT") ≡ Some t.account) × (first_value f (codes "DAY") ≡ Some t.day)
     × (first_value f (codes "journal") ≡ Some t.journal) × (first_value f (codes "ledger") ≡ t.ledger)
     × (one_text f (codes "week") ≡ Some (flag_text t.week))
+
+-- these rows have the words that `page` is given
+abbrev pub HavePageTexts : List Row → PageTexts → Type 0
+HavePageTexts rows t = (first_of (codes "FARES") rows ≡ Some t.fares) × (first_of (codes "ZONE") rows ≡ Some t.zone)
+    × (first_of (codes "journal") rows ≡ Some t.journal) × (one_of (codes "port") rows ≡ Some t.port)
+
+-- the matches are those of `page` with these values, and a port in its range
+abbrev pub GivesPage : ArgMatches → Page → Type 0
+GivesPage m p = (t : PageTexts) × (rows : List Row) × (subcommand_rows_of m ≡ Some (codes "page", rows))
+    × HavePageTexts rows t × (is_port t.port ≡ true) × (page_of_texts t ≡ p)
+
+-- the matches have the words that `page` is given
+abbrev pub HasPageTexts : Found → PageTexts → Type 0
+HasPageTexts f t = (first_value f (codes "FARES") ≡ Some t.fares) × (first_value f (codes "ZONE") ≡ Some t.zone)
+    × (first_value f (codes "journal") ≡ Some t.journal) × (one_text f (codes "port") ≡ Some t.port)
 
 -- the subcommand that the matches have, with its values and its files
 abbrev pub values_and_files : Text × List Row → Text × Option Text × Option Text × Option (List Text)

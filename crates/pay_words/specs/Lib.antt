@@ -6,6 +6,7 @@ pub mod Explain
 pub mod Greeting
 pub mod OneWord
 pub mod Options
+pub mod Page
 pub mod Rebuild
 pub mod Run
 pub mod Serve

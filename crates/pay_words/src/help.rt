@@ -19,6 +19,9 @@ Read taps and corrections from standard input, and print the statement of an acc
 pub const EXPLAIN: &str = "\
 Read journals, and say why an account's day or week was charged, in plain words";
 
+/// What `page` does.
+pub const PAGE: &str = "Show why accounts were charged, as web pages for customer service";
+
 /// What `replay` does.
 pub const REPLAY: &str = "\
 Read journals, and print how many lines and accounts they have, with the first and last
@@ -85,6 +88,10 @@ files are made if they are missing, the folder is not";
 pub const JOURNAL_EXPLAINED: &str = "\
 A journal that has the account, or a folder of journals; it is only read";
 
+/// What the option `--journal` of `page` is.
+pub const JOURNAL_SHOWN: &str = "\
+A journal that has the accounts, or a folder of journals; it is only read";
+
 /// What the option `--journal` of `audit` is.
 pub const JOURNAL_AUDITED: &str = "A journal, or a folder of journals; it is only read";
 
@@ -126,7 +133,10 @@ With --against: OK if all days up to this one are priced alike. Take the
 last day that has a tap: today, if a service runs. Its date, such as
 2024-01-08, or its number from 4 to 50000, counted from 1970-01-01";
 
-/// What the option `--port` is.
+/// What the option `--port` of `page` is.
+pub const PORT_OF_PAGES: &str = "The port of 127.0.0.1 that answers browsers, from 1 to 65535";
+
+/// What the option `--port` of `serve` is.
 pub const PORT: &str = "\
 The port of the first lane, from 1 to 65535. Each further lane has the
 next port, and none is above 65535. With --control, the port of all lanes";
@@ -173,15 +183,16 @@ STOP, STATS, BACKUP PATH or OPEN DAY";
 /// What stands below the program's own help.
 pub const BELOW_PROGRAM: &str = "\
 Words of run (FARES ZONE), of check (FARES), of statement (FARES ZONE ACCOUNT DAY), of explain
-(FARES ZONE ACCOUNT DAY --journal PATH), of replay (FARES ZONE FILE..), of serve (FARES ZONE
---port P --lanes L --shards N --sessions K --close DAY, or FARES ZONE --port P --lanes L --shards N
---control C --journal FOLDER --ledger FILE), of audit (FARES ZONE --journal PATH) and of rebuild
-(FARES LEDGER), with options in any order:
+(FARES ZONE ACCOUNT DAY --journal PATH), of page (FARES ZONE --journal PATH --port P), of replay
+(FARES ZONE FILE..), of serve (FARES ZONE --port P --lanes L --shards N --sessions K --close DAY, or
+FARES ZONE --port P --lanes L --shards N --control C --journal FOLDER --ledger FILE), of audit
+(FARES ZONE --journal PATH) and of rebuild (FARES LEDGER), with options in any order:
   FARES    the fare file, a TOML document, which may hold editions, fares that hold from a day on
   ZONE     the time zone, a POSIX rule text (a name such as Europe/London is none)
   ACCOUNT  the account, a number from 1 to 4294967295
   DAY      a service day: its date, such as 2024-01-08, or its number, counted from 1970-01-01
-  P        the port of the first lane, each further lane has the next port; with C, of all lanes
+  P        the port of the first lane, each further lane has the next port; with C, of all lanes;
+           of page, the port that answers browsers
   L        how many lanes there are, from 1 to 15; with C, from 1 to 14
   N        how many shards the accounts are spread over, from 1 to 16
   K        how many connections each lane serves, from 1 to 1000; then the service ends
@@ -275,6 +286,18 @@ The lines, the fare file, the statement and the faults are described in docs/FOR
 pub const BELOW_EXPLAIN: &str = "\
 PATH is the FILE of `run --journal FILE`, or the FOLDER of `serve --journal FOLDER`. Standard input
 is not read.
+
+Statuses:
+  0  all right
+  1  a fault, which one line on standard error names
+  2  the words were refused
+
+The journal, the fare file and the faults are described in docs/FORMATS.md.";
+
+/// What stands below the help of `page`.
+pub const BELOW_PAGE: &str = "\
+PATH is the FILE of `run --journal FILE`, or the FOLDER of `serve --journal FOLDER`. The port is of
+127.0.0.1 alone. Standard input is not read.
 
 Statuses:
   0  all right

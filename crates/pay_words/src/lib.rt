@@ -6,6 +6,6 @@ pub mod limits;
 mod words;
 
 pub use words::{
-    AuditWords, CheckWords, ExplainWords, Job, RebuildWords, ReplayWords, RunWords, ServeWords,
-    StatementWords, StayWords, WordsFault, read_words,
+    AuditWords, CheckWords, ExplainWords, Job, PageWords, RebuildWords, ReplayWords, RunWords,
+    ServeWords, StatementWords, StayWords, WordsFault, read_words,
 };

@@ -5,29 +5,30 @@ ghost use Rattle.std.specs.List.{list_all};
 ghost use Rattle.clap.specs.Walk.{texts};
 ghost use Rattle.clap.specs.Words.{app_of, first_value, found_of, kind_of, one_text};
 ghost use Rattle.clap.specs.declared.builder.command.Command.TheViews.{out-Command as fields_of};
-ghost use Rattle.pay_words.specs.CommandLine.{GivesAudit, GivesCheck, GivesExplain, GivesRebuild, GivesReplay, GivesRun, GivesServe, GivesStatement};
-ghost use Rattle.pay_words.specs.CommandLine.{HasAudit, HasCheckTexts, HasExplainTexts, HasFaresAndLedger, HasFaresAndZone, HasFiles, HasRun, HasServeTexts, HasStatementTexts};
+ghost use Rattle.pay_words.specs.CommandLine.{GivesAudit, GivesCheck, GivesExplain, GivesPage, GivesRebuild, GivesReplay, GivesRun, GivesServe, GivesStatement};
+ghost use Rattle.pay_words.specs.CommandLine.{HasAudit, HasCheckTexts, HasExplainTexts, HasFaresAndLedger, HasFaresAndZone, HasFiles, HasPageTexts, HasRun, HasServeTexts, HasStatementTexts};
 ghost use Rattle.pay_words.specs.CommandLine.{IsFaultOfKind, IsHelpOrMemory, IsVersionOrMemory, flag_text};
-ghost use Rattle.pay_words.specs.CommandLine.{audit_app, check_app, explain_app, farebox_app, rebuild_app, replay_app, run_app, serve_app, statement_app};
+ghost use Rattle.pay_words.specs.CommandLine.{audit_app, check_app, explain_app, farebox_app, page_app, rebuild_app, replay_app, run_app, serve_app, statement_app};
 ghost use Rattle.pay_words.specs.CommandLine.{flag_option, optional_number, required_number, required_option, required_text, required_word};
 ghost use Rattle.pay_words.specs.CommandLine.{required_words, text_option, with_account_and_day, with_against, with_end, with_fares_and_zone, with_ledger, with_numbers};
 ghost use Rattle.clap.specs.Words.{App, with_rule, with_subcommand};
 ghost use Rattle.clap.specs.ValueTests.{is_unsigned_in};
 ghost use Rattle.clap.specs.Walk.{rule_of};
 ghost use Rattle.pay_words.specs.Asked.{IsFaultOf, Text, asked, job_asked, AreJobWords, IsJob, IsJobInRange};
-ghost use Rattle.pay_words.specs.Asked.{RunIsTaken, CheckIsTaken, StatementIsTaken, ExplainIsTaken, ReplayIsTaken, ServeIsTaken, AuditIsTaken, RebuildIsTaken};
+ghost use Rattle.pay_words.specs.Asked.{RunIsTaken, CheckIsTaken, StatementIsTaken, ExplainIsTaken, PageIsTaken, ReplayIsTaken, ServeIsTaken, AuditIsTaken, RebuildIsTaken};
 ghost use Rattle.pay_dates.specs.Words.{day_of_text};
-ghost use Rattle.pay_words.specs.Asked.{IsAnswer, IsJobOrMemory, allowed, audit_job, check_job, explain_job, run_job, served_job, service_values, statement_job};
+ghost use Rattle.pay_words.specs.Asked.{IsAnswer, IsJobOrMemory, allowed, audit_job, check_job, explain_job, page_job, run_job, served_job, service_values, statement_job};
 ghost use Rattle.pay_words.specs.OneWord.{is_account, is_port};
 ghost use Rattle.pay_words.specs.Audit.{Audit};
 ghost use Rattle.pay_words.specs.Check.{Check, CheckTexts, check_of_texts, has_after_day, has_against};
 ghost use Rattle.pay_words.specs.Explain.{Explain, ExplainTexts, explain_of_texts};
 ghost use Rattle.pay_words.specs.Greeting.{begins_or_ends_with_space, is_greeting, is_printable, is_word_of_staff};
+ghost use Rattle.pay_words.specs.Page.{Page, PageTexts, page_of_texts};
 ghost use Rattle.pay_words.specs.Run.{Run, has_journal};
 ghost use Rattle.pay_words.specs.Serve.{AreInRange, Serve, ServeTexts, closed_day, has_more, has_no_end, has_ports, leaves_room, may_greet, numbers_of};
 ghost use Rattle.pay_words.specs.Statement.{Statement, StatementTexts, statement_of_texts};
 ghost use Rattle.pay_words.specs.Asked.{check as check_asked, run as run_asked, without_dashes};
-ghost use Rattle.pay_words.specs.Asked.{audit as audit_asked, explain as explain_asked, rebuild as rebuild_asked};
+ghost use Rattle.pay_words.specs.Asked.{audit as audit_asked, explain as explain_asked, page as page_asked, rebuild as rebuild_asked};
 ghost use Rattle.pay_words.specs.Asked.{replay as replay_asked, serve as serve_asked, statement as statement_asked, number_of};
 ghost use Rattle.pay_words.specs.declared.words.WordsFault.TheVariants.{Memory};
 
@@ -60,6 +61,8 @@ pub enum Job<'a> {
     /// `explain FARES ZONE ACCOUNT DAY --journal PATH` and its options: why an account's day was charged, or its week
     /// through that day.
     Explain(ExplainWords<'a>),
+    /// `page FARES ZONE --journal PATH --port P`: why accounts were charged, as web pages for customer service.
+    Page(PageWords<'a>),
     /// `replay FARES ZONE FILE..`: whether journals can be taken again, and how many lines they have.
     Replay(ReplayWords<'a>),
     /// `serve FARES ZONE --port P --lanes L --shards N --sessions K --close DAY` and the options that may be
@@ -139,6 +142,19 @@ pub struct ExplainWords<'a> {
     pub ledger: Option<&'a str>,
     /// Whether the week through that day is asked for, in place of the day alone.
     pub week: bool,
+}
+
+/// The values of `page FARES ZONE --journal PATH --port P`.
+#[derive(Clone, Copy)]
+pub struct PageWords<'a> {
+    /// The path of the fare file.
+    pub fares: &'a str,
+    /// The text of the time zone, a POSIX rule.
+    pub zone: &'a str,
+    /// The path of a journal, or of a folder of journals; it is only read.
+    pub journal: &'a str,
+    /// The port of 127.0.0.1 that answers browsers: 1 to 65,535.
+    pub port: u16,
 }
 
 /// The values of `replay FARES ZONE FILE..`.
@@ -315,6 +331,9 @@ pub fn read_words<'a>(alloc: Global, words: &'a [&'a str]) -> Result<Job<'a>, Wo
     // the values of `explain`.
     ensures explain { ExplainIsTaken (texts words.entry.now) result }
 
+    // Two words with no hyphen before them, a journal and a port, in any order, are the values of `page`.
+    ensures page { PageIsTaken (texts words.entry.now) result }
+
     // Three words or more with no hyphen before them are the values of `replay`.
     ensures replay { ReplayIsTaken (texts words.entry.now) result }
 
@@ -347,10 +366,11 @@ fn farebox_command<'a>(alloc: Global) -> Result<Command<'a>, AllocError>
     let two = with_program(one, check_command(alloc));
     let three = with_program(two, statement_command(alloc));
     let four = with_program(three, explain_command(alloc));
-    let five = with_program(four, replay_command(alloc));
-    let six = with_program(five, serve_command(alloc));
-    let seven = with_program(six, audit_command(alloc));
-    with_program(seven, rebuild_command(alloc))
+    let five = with_program(four, page_command(alloc));
+    let six = with_program(five, replay_command(alloc));
+    let seven = with_program(six, serve_command(alloc));
+    let eight = with_program(seven, audit_command(alloc));
+    with_program(eight, rebuild_command(alloc))
 }
 
 /// A command with a program more, if both could be made.
@@ -491,6 +511,20 @@ fn explain_command<'a>(alloc: Global) -> Result<Command<'a>, AllocError>
         text_option(alloc, "ledger", "FILE", help::LEDGER_EXPLAINED),
     )?;
     kept.arg(flag_option(alloc, "week", help::WEEK))
+}
+
+fn page_command<'a>(alloc: Global) -> Result<Command<'a>, AllocError>
+    ensures app { IfOk result (λ command. app_of command ≡ page_app) }
+    ensures local { IfOk result (λ command. (fields_of command).has_globals ≡ false) }
+{
+    let command = Command::new(alloc, "page")
+        .about(help::PAGE)
+        .after_help(help::BELOW_PAGE);
+    with_two(
+        with_fares_and_zone(alloc, command)?,
+        required_text(alloc, "journal", "PATH", help::JOURNAL_SHOWN),
+        number_option(alloc, "port", "P", help::PORT_OF_PAGES, 1, MOST_PORT),
+    )
 }
 
 fn replay_command<'a>(alloc: Global) -> Result<Command<'a>, AllocError>
@@ -674,6 +708,7 @@ fn job_of<'a>(alloc: Global, matches: &ArgMatches<'a>) -> Result<Job<'a>, WordsF
     ensures check { (c : Check) → GivesCheck matches.now c → IsAnswer (allowed (check_asked c)) result }
     ensures statement { (s : Statement) → GivesStatement matches.now s → IsAnswer (allowed (statement_asked s)) result }
     ensures explain { (e : Explain) → GivesExplain matches.now e → IsAnswer (allowed (explain_asked e)) result }
+    ensures page { (p : Page) → GivesPage matches.now p → IsJob (page_asked p) result }
     ensures replay { (fares zone : Text) (files : List Text)
         → GivesReplay matches.now fares zone files → IsJobOrMemory (replay_asked fares zone files) result }
     ensures serve { (s : Serve) → GivesServe matches.now s → IsAnswer (allowed (serve_asked s)) result }
@@ -685,6 +720,7 @@ fn job_of<'a>(alloc: Global, matches: &ArgMatches<'a>) -> Result<Job<'a>, WordsF
         Some(("check", check)) => check_job(check),
         Some(("statement", statement)) => statement_job(statement),
         Some(("explain", explain)) => explain_job(explain),
+        Some(("page", page)) => page_job(page),
         Some(("replay", replay)) => replay_job(alloc, replay),
         Some(("serve", serve)) => serve_job(serve),
         Some(("audit", audit)) => audit_job(audit),
@@ -831,6 +867,28 @@ fn explain_words<'a>(explain: &ArgMatches<'a>) -> Option<ExplainWords<'a>>
         journal: explain.get_str("journal")?,
         ledger: explain.get_str("ledger"),
         week: is_flagged(explain, "week"),
+    })
+}
+
+fn page_job<'a>(page: &ArgMatches<'a>) -> Result<Job<'a>, WordsFault>
+    ensures { (t : PageTexts) → HasPageTexts (found_of page.now) t → is_port t.port ≡ true
+        → IsJob (page_asked (page_of_texts t)) result }
+{
+    match page_words(page) {
+        Some(words) => Ok(Job::Page(words)),
+        None => Err(WordsFault::Usage),
+    }
+}
+
+fn page_words<'a>(page: &ArgMatches<'a>) -> Option<PageWords<'a>>
+    ensures { (t : PageTexts) → HasPageTexts (found_of page.now) t → is_port t.port ≡ true
+        → IsSomeAnd result (λ words. page_job words ≡ page_of_texts t) }
+{
+    Some(PageWords {
+        fares: page.get_str("FARES")?,
+        zone: page.get_str("ZONE")?,
+        journal: page.get_str("journal")?,
+        port: port_of(page, "port")?,
     })
 }
 
@@ -1081,12 +1139,12 @@ fn rebuild_job<'a>(rebuild: &ArgMatches<'a>) -> Result<Job<'a>, WordsFault>
 }
 
 /// The port of this name, of the numbers that the matches have.
-fn port_of(serve: &ArgMatches<'_>, name: &str) -> Option<u16>
-    ensures none { one_text (found_of serve.now) name.now ≡ None → result ≡ None }
-    ensures value { (word : Text) → one_text (found_of serve.now) name.now ≡ Some word
+fn port_of(matches: &ArgMatches<'_>, name: &str) -> Option<u16>
+    ensures none { one_text (found_of matches.now) name.now ≡ None → result ≡ None }
+    ensures value { (word : Text) → one_text (found_of matches.now) name.now ≡ Some word
         → is_port word ≡ true → result ≡ Some (number_of word) }
 {
-    serve.get_one(name)
+    matches.get_one(name)
 }
 
 /// The number of this name, of those that the matches have, where it is below 256.

@@ -1,7 +1,7 @@
 use Rattle.std.proofs.Common.{◌≡◌, true, codes, rules}
 use Rattle.clap.specs.Words.{app_of, new_app, with_subcommand}
 use Rattle.clap.specs.Simple.{App, on_top}
-use Rattle.pay_words.specs.CommandLine.{audit_app, check_app, explain_app, rebuild_app, replay_app, run_app, serve_app, statement_app}
+use Rattle.pay_words.specs.CommandLine.{audit_app, check_app, explain_app, page_app, rebuild_app, replay_app, run_app, serve_app, statement_app}
 use Rattle.pay_words.proofs.words.farebox_command.Goals as goal
 
 pub returns : goal.returns
@@ -12,16 +12,18 @@ returns c =
     let two = with_subcommand one check_app.top in
     let three = with_subcommand two statement_app.top in
     let four = with_subcommand three explain_app.top in
-    let five = with_subcommand four replay_app.top in
-    let six = with_subcommand five serve_app.top in
-    let seven = with_subcommand six audit_app.top in
-    c.with_program.ensures seven rebuild_app
-    (c.with_program-seven.ensures six audit_app
-    (c.with_program-six.ensures five serve_app
-    (c.with_program-five.ensures four replay_app
+    let five = with_subcommand four page_app.top in
+    let six = with_subcommand five replay_app.top in
+    let seven = with_subcommand six serve_app.top in
+    let eight = with_subcommand seven audit_app.top in
+    c.with_program.ensures eight rebuild_app
+    (c.with_program-eight.ensures seven audit_app
+    (c.with_program-seven.ensures six serve_app
+    (c.with_program-six.ensures five replay_app
+    (c.with_program-five.ensures four page_app
     (c.with_program-four.ensures three explain_app
     (c.with_program-three.ensures two statement_app
     (c.with_program-two.ensures one check_app
     (c.with_program-one.ensures top run_app made c.run_command.ensures.app)
-    c.check_command.ensures.app) c.statement_command.ensures.app) c.explain_command.ensures.app) c.replay_command.ensures.app) c.serve_command.ensures.app) c.audit_command.ensures.app)
+    c.check_command.ensures.app) c.statement_command.ensures.app) c.explain_command.ensures.app) c.page_command.ensures.app) c.replay_command.ensures.app) c.serve_command.ensures.app) c.audit_command.ensures.app)
     c.rebuild_command.ensures.app

@@ -1,5 +1,5 @@
 use Rattle.clap.specs.Words.{found_of}
-use Rattle.pay_words.proofs.Results.{audit_values, check_texts, explain_texts, rebuild_values, replay_values, run_values, serve_texts, statement_texts}
+use Rattle.pay_words.proofs.Results.{audit_values, check_texts, explain_texts, page_texts, rebuild_values, replay_values, run_values, serve_texts, statement_texts}
 use Rattle.pay_words.proofs.words.job_of.Goals as goal
 
 pub returns-in-Some-run-default-clause-run : goal.returns-in-Some-run-default-clause-run
@@ -20,6 +20,11 @@ pub returns-in-Some-explain-default-clause-explain : goal.returns-in-Some-explai
 returns-in-Some-explain-default-clause-explain c = λ e gives.
     let found = found_of c.in-Some-explain-default.explain.now in
     rw (← gives.5) (c.explain_job.ensures gives.0 (explain_texts c.args.matches.now found e c.in-Some-explain-default.ensures.rows gives) gives.4)
+
+pub returns-in-Some-page-default-clause-page : goal.returns-in-Some-page-default-clause-page
+returns-in-Some-page-default-clause-page c = λ p gives.
+    let found = found_of c.in-Some-page-default.page.now in
+    rw (← gives.5) (c.page_job.ensures gives.0 (page_texts c.args.matches.now found p c.in-Some-page-default.ensures.rows gives) gives.4)
 
 pub returns-in-Some-replay-default-clause-replay : goal.returns-in-Some-replay-default-clause-replay
 returns-in-Some-replay-default-clause-replay c = λ fares zone files gives.

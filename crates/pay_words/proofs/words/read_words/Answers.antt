@@ -3,7 +3,7 @@ use Rattle.clap.specs.Words.{App, HasMatchesOf, HasKind, Text, app_of, fault_of,
 use Rattle.clap.specs.Walk.{texts}
 use Rattle.pay_words.specs.Asked.{asked, words_ask}
 use Rattle.pay_words.specs.CommandLine.{farebox_app}
-use Rattle.pay_words.proofs.Results.{job_read, matched, refused_as, result_audit, result_check, result_explain, result_in_range, result_job, result_rebuild, result_refused, result_replay, result_run, result_serve, result_statement, result_words}
+use Rattle.pay_words.proofs.Results.{job_read, matched, refused_as, result_audit, result_check, result_explain, result_in_range, result_job, result_page, result_rebuild, result_refused, result_replay, result_run, result_serve, result_statement, result_words}
 use Rattle.pay_words.proofs.words.read_words.Goals as goal
 
 pub returns-in-Ok-clause-job : goal.returns-in-Ok-clause-job
@@ -17,6 +17,7 @@ returns-in-Ok-clause-job c =
       of_check = c.job_of.ensures.check;
       of_statement = c.job_of.ensures.statement;
       of_explain = c.job_of.ensures.explain;
+      of_page = c.job_of.ensures.page;
       of_replay = c.job_of.ensures.replay;
       of_serve = c.job_of.ensures.serve;
       of_audit = c.job_of.ensures.audit;
@@ -34,6 +35,7 @@ returns-in-Ok-clause-refused c =
       of_check = c.job_of.ensures.check;
       of_statement = c.job_of.ensures.statement;
       of_explain = c.job_of.ensures.explain;
+      of_page = c.job_of.ensures.page;
       of_replay = c.job_of.ensures.replay;
       of_serve = c.job_of.ensures.serve;
       of_audit = c.job_of.ensures.audit;
@@ -76,6 +78,12 @@ returns-in-Ok-clause-explain c = result_explain c.job_of.result (texts c.args.wo
 
 pub returns-in-Err-clause-explain : goal.returns-in-Err-clause-explain
 returns-in-Err-clause-explain c = result_explain (Err c.fault_of.result) (texts c.args.words.now) tt (returns-in-Err-clause-refused c)
+
+pub returns-in-Ok-clause-page : goal.returns-in-Ok-clause-page
+returns-in-Ok-clause-page c = result_page c.job_of.result (texts c.args.words.now) (returns-in-Ok-clause-job c) (returns-in-Ok-clause-refused c)
+
+pub returns-in-Err-clause-page : goal.returns-in-Err-clause-page
+returns-in-Err-clause-page c = result_page (Err c.fault_of.result) (texts c.args.words.now) tt (returns-in-Err-clause-refused c)
 
 pub returns-in-Ok-clause-replay : goal.returns-in-Ok-clause-replay
 returns-in-Ok-clause-replay c = result_replay c.job_of.result (texts c.args.words.now) (returns-in-Ok-clause-job c) (returns-in-Ok-clause-refused c)

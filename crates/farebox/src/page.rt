@@ -1,0 +1,75 @@
+//! The job `page`.
+
+use pay_files::{fares_text, path_in, print_warnings};
+use pay_jobs::{Fault, FileFault};
+use pay_log::Log;
+use pay_page_job::{Given, serve_pages};
+use pay_words::PageWords;
+use std::alloc::AllocError;
+use std::fs;
+use std::fs::File;
+use std::net::{Net, TcpListener, TcpStream};
+use std::process::ExitCode;
+use std::random::RandomSource;
+use std::rt::{Clock, Files};
+use std::sync::Wait;
+use std::thread::Threads;
+
+/// How many journals a service has.
+const JOURNALS: u64 = 16;
+
+/// Shows why accounts were charged, by the journal at a path or those in a folder, until the program is ended.
+pub fn show_pages<R>(rt: R, words: &PageWords<'_>) -> Result<ExitCode, Fault>
+where
+    R: Net<Listener = TcpListener, Stream = TcpStream>
+        + Threads
+        + Wait
+        + Files<File = File>
+        + Clock
+        + RandomSource
+        + Log
+        + AllocGlobal
+        + Copy
+        + Send
+        + 'static,
+{
+    let fares = fares_text(&rt, words.fares)?;
+    print_warnings(&rt, fares.as_str())?;
+    let given = Given {
+        fares,
+        zone: text_of(&rt, words.zone)?,
+        paths: paths_at(&rt, words.journal)?,
+        port: words.port,
+    };
+    serve_pages(rt, given)?;
+    Ok(ExitCode::SUCCESS)
+}
+
+fn text_of<R: AllocGlobal>(rt: &R, text: &str) -> Result<String, AllocError> {
+    let mut copy = String::new(rt.alloc());
+    copy.push_str(text)?;
+    Ok(copy)
+}
+
+/// The paths of the journals: of a folder all that a service may have, of which one has to be there.
+fn paths_at<R: Files + AllocGlobal>(rt: &R, path: &str) -> Result<Vec<String>, Fault> {
+    let mut paths: Vec<String> = Vec::new(rt.alloc());
+    let is_folder = match fs::metadata(rt, path) {
+        Ok(found) => found.is_dir(),
+        Err(_) => return Err(Fault::File(FileFault::CannotUseJournal)),
+    };
+    if !is_folder {
+        paths.push(text_of(rt, path)?).map_err(AllocError::from)?;
+        return Ok(paths);
+    }
+    let mut has_any = false;
+    for number in 0..JOURNALS {
+        let journal = path_in(rt.alloc(), path, number)?;
+        has_any = has_any || fs::metadata(rt, journal.as_str()).is_ok();
+        paths.push(journal).map_err(AllocError::from)?;
+    }
+    if has_any {
+        return Ok(paths);
+    }
+    Err(Fault::File(FileFault::CannotUseJournal))
+}

@@ -1,0 +1,186 @@
+//! The port, and the threads that answer browsers there.
+
+use crate::journals::Journals;
+use crate::patient::{Patient, SILENCE};
+use http_server::{Config, Connection, serve};
+use pay_jobs::{Fault, begin_service};
+use pay_log::{Level, Log};
+use pay_serve::listen_on;
+use pay_web::Site;
+use std::alloc::{AllocError, Global};
+use std::fs::File;
+use std::hash::RandomState;
+use std::net::{Net, TcpListener, TcpStream};
+use std::random::RandomSource;
+use std::rt::{Clock, Files};
+use std::sync::Wait;
+use std::thread::Threads;
+use std::time::Duration;
+use std::{io, thread};
+
+/// How many browsers are answered at a time.
+const THREADS: usize = 4;
+
+/// For how many milliseconds the journals are left alone, and nothing is tried where no connection can be taken.
+const PAUSE: u64 = 50;
+
+/// The most bytes of a head.
+const MOST_HEAD: usize = 8 * 1024;
+
+/// The most bytes of a body. Nothing is asked for by one.
+const MOST_BODY: usize = 4 * 1024;
+
+/// What pages are made of, and where they are shown.
+#[derive(Drop)]
+pub struct Given {
+    /// The text of the fare file.
+    pub fares: String,
+    /// The text of the time zone, a POSIX rule.
+    pub zone: String,
+    /// The paths of the journals.
+    pub paths: Vec<String>,
+    /// The port of 127.0.0.1.
+    pub port: u16,
+}
+
+/// Answers browsers until the program is ended. A fare file or a zone that is refused is a fault before anything else, and so are journals
+/// that cannot be read then.
+pub fn serve_pages<R>(rt: R, given: Given) -> Result<(), Fault>
+where
+    R: Net<Listener = TcpListener, Stream = TcpStream>
+        + Threads
+        + Wait
+        + Files<File = File>
+        + Clock
+        + RandomSource
+        + Log
+        + AllocGlobal
+        + Copy
+        + Send
+        + 'static,
+{
+    let Given {
+        fares,
+        zone,
+        paths,
+        port,
+    } = given;
+    let _begun = begin_service(rt.alloc(), fares.as_str(), zone.as_str())?;
+    let journals = Journals::new(rt, fares, zone, paths)?;
+    if !journals.read_on() {
+        return Err(Fault::Journal);
+    }
+    let Ok(listener) = listen_on(&rt, port) else {
+        return Err(Fault::CannotListen);
+    };
+    let Ok(keys) = RandomState::new(&rt) else {
+        return Err(Fault::CannotListen);
+    };
+    let mut has_any = false;
+    for _ in 0..THREADS {
+        let Ok(listener) = listener.try_clone() else {
+            return Err(Fault::CannotListen);
+        };
+        let browsers = Browsers::new(rt, rt.alloc(), journals.again()?, keys, port)?;
+        has_any = answer_beside(&rt, listener, browsers) || has_any;
+    }
+    if !has_any {
+        return Err(Fault::Refused {
+            number: 35,
+            name: "NoThread",
+        });
+    }
+    rt.say(
+        Level::Information,
+        format_args!("farebox: pages at http://127.0.0.1:{port}/"),
+    );
+    for _ in rt.forever() {
+        let _ = journals.read_on();
+        thread::sleep(&rt, Duration::from_millis(PAUSE));
+    }
+    Ok(())
+}
+
+/// What answers connections.
+trait Answer: Drop {
+    /// Answers the requests of one.
+    fn answer(&mut self, stream: &TcpStream);
+
+    /// Waits a little where none can be taken.
+    fn pause(&self);
+}
+
+/// Answers connections in a thread of its own, if the system gives one.
+fn answer_beside<R, A>(rt: &R, listener: TcpListener, browsers: A) -> bool
+where
+    R: Threads,
+    A: Answer + Send + 'static,
+{
+    let answer = move || {
+        answer_all(&listener, browsers);
+        true
+    };
+    thread::spawn(rt, answer).is_ok()
+}
+
+/// Answers one connection after another.
+fn answer_all<A: Answer>(listener: &TcpListener, mut browsers: A) {
+    for stream in listener.incoming() {
+        match stream {
+            Ok(stream) => browsers.answer(&stream),
+            Err(_) => browsers.pause(),
+        }
+    }
+}
+
+/// What answers browsers by the pages of journals.
+#[derive(Drop)]
+struct Browsers<R> {
+    rt: R,
+    alloc: Global,
+    keys: RandomState,
+    site: Site<Journals<R>>,
+}
+
+impl<R: Clock + Wait + Log + Copy> Browsers<R> {
+    fn new(
+        rt: R,
+        alloc: Global,
+        journals: Journals<R>,
+        keys: RandomState,
+        port: u16,
+    ) -> Result<Browsers<R>, AllocError> {
+        let site = Site::new(alloc, port, journals)?;
+        Ok(Browsers {
+            rt,
+            alloc,
+            keys,
+            site,
+        })
+    }
+
+    /// Answers the requests of a connection.
+    fn serve(&mut self, stream: &TcpStream) -> io::Result<()> {
+        let silence = Some(Duration::from_secs(SILENCE));
+        stream.set_read_timeout(silence)?;
+        stream.set_write_timeout(silence)?;
+        let mut config = Config::default();
+        config.limits.max_head_len = MOST_HEAD;
+        config.max_body_len = MOST_BODY;
+        let mut connection = Connection::new(self.alloc, self.keys, config);
+        let mut reader = Patient::new(&self.rt, stream);
+        let mut writer = stream;
+        serve(&mut connection, &mut self.site, &mut reader, &mut writer)
+    }
+}
+
+impl<R: Clock + Wait + Log + Copy> Answer for Browsers<R> {
+    fn answer(&mut self, stream: &TcpStream) {
+        // Whatever ends a connection early is its peer's.
+        let _ = self.serve(stream);
+    }
+
+    fn pause(&self) {
+        thread::sleep(&self.rt, Duration::from_millis(PAUSE));
+    }
+}

@@ -1,0 +1,84 @@
+//! Journals that are followed.
+ghost use Rattle.std.specs.Prelude.{◌≡◌, ◌<◌, length, map as each, replicate, vec_items, [], IfOk, IfErr, OnErr};
+ghost use Rattle.std.specs.String.{string_bytes};
+ghost use Rattle.pay_account_lines.specs.Words.{own_lines, IsRefused};
+ghost use Rattle.pay_day.specs.Words.{IsDay};
+ghost use Rattle.pay_explain_job.specs.Accounts.{given};
+ghost use Rattle.pay_explain_job.specs.Explain.{query, IsNotExplained};
+ghost use Rattle.pay_explain_job.specs.Pages.{IsPaged};
+ghost use Rattle.pay_page_job.specs.Followed.{IsReadOn};
+
+use pay_account_lines::{AccountLines, LineFault};
+use pay_explain_job::page_by_texts;
+use pay_jobs::Fault;
+use pay_web::Asked;
+use std::alloc::{AllocError, Global};
+
+/// Of journals all whole lines that were read so far.
+#[derive(Drop)]
+pub(crate) struct Followed {
+    alloc: Global,
+    journals: Vec<AccountLines>,
+}
+
+impl Followed {
+    /// So many journals of which nothing was read.
+    pub fn new(alloc: Global, count: usize) -> Result<Followed, AllocError>
+        ensures { IfOk result (λ it. it.journals.items ≡ replicate count []) }
+    {
+        let mut journals: Vec<AccountLines> = Vec::new(alloc);
+        for _ in 0..count {
+            journals.push(AccountLines::new(alloc))?;
+        }
+        Ok(Followed { alloc, journals })
+    }
+
+    /// How many journals there are.
+    pub fn count(&self) -> usize
+        ensures { result ≡ length self.now.journals.items }
+    {
+        self.journals.len()
+    }
+
+    /// Reads a journal on: what stands there after all that was read of it. The answer is how many bytes were taken, up to its last
+    /// newline: it is read on from there. On an `Err` all is as before.
+    pub fn read_on(&mut self, journal: usize, text: &[u8]) -> Result<usize, LineFault>
+        requires { journal < length self.old.journals.items }
+        ensures read { IfOk result (IsReadOn self.old.journals.items self.new.journals.items journal text.now) }
+        ensures refused { IfErr result (IsRefused text.now) }
+        ensures kept { OnErr result (self.new.journals.items ≡ self.old.journals.items) }
+    {
+        self.journals[journal].add(text)
+    }
+
+    /// The page of what is asked for, by a fare file, a zone, and the account's own lines. A line that is not accepted is told by the
+    /// number of its journal, from 0 on, and its own among the account's.
+    pub fn page(&self, fares: &str, zone: &str, asked: Asked) -> Result<String, Fault>
+        requires { IsDay asked.day }
+        ensures page { IfOk result (λ text. IsPaged (given fares.now zone.now (each (own_lines asked.account) self.now.journals.items)) (query asked.account asked.day asked.week) (string_bytes text)) }
+        ensures fails { IfErr result (IsNotExplained (given fares.now zone.now (each (own_lines asked.account) self.now.journals.items))) }
+    {
+        let Asked { account, day, week } = asked;
+        let texts = self.own_texts(account)?;
+        page_by_texts(
+            self.alloc,
+            fares,
+            zone,
+            texts.as_slice(),
+            account,
+            day,
+            week,
+        )
+    }
+
+    /// Of each journal the lines of an account.
+    fn own_texts(&self, account: u32) -> Result<Vec<Vec<u8>>, AllocError>
+        ensures { IfOk result (λ texts. each vec_items texts.items ≡ each (own_lines account) self.now.journals.items) }
+    {
+        let mut texts: Vec<Vec<u8>> = Vec::new(self.alloc);
+        for place in 0..self.journals.len() {
+            texts.push(self.journals[place].of(account)?)?;
+        }
+        Ok(texts)
+    }
+}
