@@ -28,6 +28,7 @@ FILES = {
     "./usr/bin/farebox": "-rwxr-xr-x",
     "./usr/lib/systemd/system/farebox-nightly.service": "-rw-r--r--",
     "./usr/lib/systemd/system/farebox-nightly.timer": "-rw-r--r--",
+    "./usr/lib/systemd/system/farebox-page.service": "-rw-r--r--",
     "./usr/lib/systemd/system/farebox.service": "-rw-r--r--",
     "./usr/sbin/farebox-nightly": "-rwxr-xr-x",
     "./usr/sbin/farebox-staff": "-rwxr-xr-x",
@@ -43,11 +44,11 @@ FILES = {
     "./usr/share/doc/farebox/examples/bus.toml": "-rw-r--r--",
     "./usr/share/man/man1/farebox.1.gz": "-rw-r--r--",
 }
-UNITS = ("farebox.service", "farebox-nightly.service", "farebox-nightly.timer")
+UNITS = ("farebox.service", "farebox-page.service", "farebox-nightly.service", "farebox-nightly.timer")
 
 MADE = "adduser --quiet --system --group --no-create-home --home /var/lib/farebox farebox"
 RELOADED = "systemctl daemon-reload"
-STOPPED = "systemctl --quiet disable --now farebox-nightly.timer farebox.service"
+STOPPED = "systemctl --quiet disable --now farebox-nightly.timer farebox-page.service farebox.service"
 TAKEN_OUT = "deluser --quiet --system farebox"
 BEGIN = b"farebox: nothing is started yet. /usr/share/doc/farebox/docs/OPERATIONS.md says how to begin.\n"
 ANEW = b"farebox: a service that runs is the earlier version until it is started anew: systemctl restart farebox\n"

@@ -38,6 +38,7 @@ Commands:
              it has, or its first fault; or compare it with another
   statement  Read taps and corrections from standard input, and print the statement of an account's week as CSV
   explain    Read journals, and say why an account's day or week was charged, in plain words
+  page       Show why accounts were charged, as web pages for customer service
   replay     Read journals, and print how many lines and accounts they have, with the first and last
              instant, or the first bad line
   serve      Read taps and corrections from the connections of several lanes. Close a day after so
@@ -53,15 +54,16 @@ Options:
   -V, --version  Print version
 
 Words of run (FARES ZONE), of check (FARES), of statement (FARES ZONE ACCOUNT DAY), of explain
-(FARES ZONE ACCOUNT DAY --journal PATH), of replay (FARES ZONE FILE..), of serve (FARES ZONE
---port P --lanes L --shards N --sessions K --close DAY, or FARES ZONE --port P --lanes L --shards N
---control C --journal FOLDER --ledger FILE), of audit (FARES ZONE --journal PATH) and of rebuild
-(FARES LEDGER), with options in any order:
+(FARES ZONE ACCOUNT DAY --journal PATH), of page (FARES ZONE --journal PATH --port P), of replay
+(FARES ZONE FILE..), of serve (FARES ZONE --port P --lanes L --shards N --sessions K --close DAY, or
+FARES ZONE --port P --lanes L --shards N --control C --journal FOLDER --ledger FILE), of audit
+(FARES ZONE --journal PATH) and of rebuild (FARES LEDGER), with options in any order:
   FARES    the fare file, a TOML document, which may hold editions, fares that hold from a day on
   ZONE     the time zone, a POSIX rule text (a name such as Europe/London is none)
   ACCOUNT  the account, a number from 1 to 4294967295
   DAY      a service day: its date, such as 2024-01-08, or its number, counted from 1970-01-01
-  P        the port of the first lane, each further lane has the next port; with C, of all lanes
+  P        the port of the first lane, each further lane has the next port; with C, of all lanes;
+           of page, the port that answers browsers
   L        how many lanes there are, from 1 to 15; with C, from 1 to 14
   N        how many shards the accounts are spread over, from 1 to 16
   K        how many connections each lane serves, from 1 to 1000; then the service ends
@@ -189,6 +191,26 @@ Options:
 
 PATH is the FILE of `run --journal FILE`, or the FOLDER of `serve --journal FOLDER`. Standard input
 is not read.
+""" + STATUSES + b"""
+The journal, the fare file and the faults are described in docs/FORMATS.md.
+"""
+PAGE_HELP = b"""\
+Show why accounts were charged, as web pages for customer service
+
+Usage: farebox page --journal <PATH> --port <P> <FARES> <ZONE>
+
+Arguments:
+  <FARES>  The fare file, a TOML document
+  <ZONE>   The time zone, a POSIX rule text such as GMT0BST,M3.5.0/1,M10.5.0
+           (a name such as Europe/London is none)
+
+Options:
+      --journal <PATH>  A journal that has the accounts, or a folder of journals; it is only read
+      --port <P>        The port of 127.0.0.1 that answers browsers, from 1 to 65535
+  -h, --help            Print help
+
+PATH is the FILE of `run --journal FILE`, or the FOLDER of `serve --journal FOLDER`. The port is of
+127.0.0.1 alone. Standard input is not read.
 """ + STATUSES + b"""
 The journal, the fare file and the faults are described in docs/FORMATS.md.
 """
@@ -360,6 +382,10 @@ class Help(Theme):
                 ["explain", "--help"], ["help", "explain"], ["explain", MISSING, "no zone", "7", "-h"],
                 ["explain", "--week", "--help", "--week"], ["explain", "--journal", MISSING, "-h"],
             )),
+            (PAGE_HELP, (
+                ["page", "--help"], ["help", "page"], ["page", MISSING, "no zone", "-h"],
+                ["page", "--port=65535", "--help", "--port=65536"], ["page", "--journal", MISSING, "-h"],
+            )),
             (REPLAY_HELP, (
                 ["replay", "--help"], ["replay", "-h"], ["help", "replay"],
                 ["replay", MISSING, "no zone", MISSING, "--help"],
@@ -400,6 +426,13 @@ REFUSED_WORDS = (
     ["run", *STATE], ["STATEMENT", *STATE[1:]],
     [*STATE, "more"], [*STATE, ""], [*STATE, "--", "more"], ["statement", *STATE], ["--", *STATE],
     ["statements", *STATE[1:]], [*RUN, "7", "19730"],
+    # Of pages: the journal and the port are needed, and given once, and the port is one.
+    ["page"], ["page", FARES, LONDON], ["page", FARES, LONDON, "--journal", MISSING],
+    ["page", FARES, LONDON, "--port=8080"], ["page", FARES, "--journal", MISSING, "--port=8080"],
+    *(["page", FARES, LONDON, "--journal", MISSING, "--port", port] for port in ("", "0", "65536", "-1", "x")),
+    *(["page", FARES, LONDON, "--journal", MISSING, "--port=8080", more] for more in (
+        "more", "--port=8080", "--port=8081", "--journal=a", "--ledger=a", "--early", "--week", "--version",
+    )),
     # Of an audit and of the lines of a ledger; and an option of others.
     ["audit"], ["audit", FARES, LONDON], ["audit", FARES, "--journal", MISSING], ["audit", FARES, LONDON, "--journal"],
     ["audit", FARES, LONDON, "--journal", MISSING, "--journal", MISSING],
