@@ -1,0 +1,7 @@
+mod Decoding
+mod Finding
+mod Numbered
+mod Numbers
+mod Parted
+mod Texts
+mod Turns

@@ -1,0 +1,10 @@
+pub mod Clerks
+pub mod Credentials
+pub mod Files
+pub mod Found
+pub mod Laws
+pub mod Lines
+pub mod Numerals
+pub mod Parts
+pub mod Rows
+pub mod Words
