@@ -9,3 +9,4 @@ pub mod Corrections
 pub mod DayPages
 pub mod WeekPages
 pub mod FormPages
+pub mod Words

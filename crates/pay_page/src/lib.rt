@@ -16,5 +16,8 @@ mod weeks;
 
 pub use days::day_page;
 pub use forms::form_page;
+pub use frame::{PageEnd, PageStart};
+pub use headings::NamedDay;
+pub use links::DayLink;
 pub use style::STYLE;
 pub use weeks::week_page;

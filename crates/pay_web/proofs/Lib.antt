@@ -1,2 +1,5 @@
 mod Adding
+mod Policies
+mod Rights
 mod Values
+mod Wished

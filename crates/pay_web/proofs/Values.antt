@@ -12,6 +12,7 @@ use Rattle.std.specs.Str.Parse.{AllDigits, IsNumeral, ParsesUnsigned, digits_val
 use Rattle.std.specs.Str.Pattern.{FindsTextPrefix, StripsPrefix}
 use Rattle.pay_dates.specs.Reading.{is_numeral}
 use Rattle.pay_web.specs.Asked.{account_of, if_account, value_of}
+use Rattle.pay_web.specs.Forms.{number_of}
 
 -- what is left of a text without its prefix
 pub stripped : (name text : List ℕ) (r : Option (Bor (List ℕ))) → MatchOption r (FindsTextPrefix name text None) (λ x. StripsPrefix (FindsTextPrefix name) text x.now) → option_copied r ≡ value_of name text
@@ -66,3 +67,18 @@ numbered {E} text (Err e) h = go (is_numeral (without_leading_plus text)) refl
     go : (t : Bool) → is_numeral (without_leading_plus text) ≡ t → None ≡ account_of text
     go true t = rw t (sym (too_great (digits_value 10 (without_leading_plus text)) (λ small. h (numeral (without_leading_plus text) t, small))))
     go false t = rw t refl
+
+-- ---- numbers
+
+pub parsed : {E : Type 0} (text : List ℕ) (r : Result ℕ E) → ParsesUnsigned 32 10 text r → result_ok r ≡ number_of text
+parsed text (Ok n) h =
+    rw (numeral_test (without_leading_plus text) h.0.0, lt-ltb (digits_value 10 (without_leading_plus text)) (2 ^ 32) h.0.1) (ap Some h.1)
+parsed {E} text (Err e) h = go (is_numeral (without_leading_plus text)) refl
+  where
+    go : (t : Bool) → is_numeral (without_leading_plus text) ≡ t → None ≡ number_of text
+    go false t = rw t refl
+    go true t = small (nat_lt (digits_value 10 (without_leading_plus text)) (2 ^ 32)) refl
+      where
+        small : (s : Bool) → nat_lt (digits_value 10 (without_leading_plus text)) (2 ^ 32) ≡ s → None ≡ number_of text
+        small false s = rw (t, s) refl
+        small true s = absurd (h (numeral (without_leading_plus text) t, ltb-true (digits_value 10 (without_leading_plus text)) (2 ^ 32) s))

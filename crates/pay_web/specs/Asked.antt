@@ -1,5 +1,5 @@
 -- The account and the day that the query of a request asks for.
-use Rattle.std.specs.Prelude.{◌≡◌, ◌≤◌, ◌<◌, ◌^◌, ◌&&◌, ◌==◌, ℕ, Bool, true, false, List, length, drop, codes, nat_le, nat_lt, nat_eq, Option, Some, None, if◌then◌else◌, refl}
+use Rattle.std.specs.Prelude.{◌≡◌, ◌≤◌, ◌^◌, ◌&&◌, ◌==◌, ℕ, Bool, true, false, List, length, drop, codes, nat_le, nat_lt, nat_eq, Option, Some, None, if◌then◌else◌, refl}
 use Rattle.std.specs.List.{before_first, after_first, list_any, starts_with}
 use Rattle.std.specs.Option.{option_and_then}
 use Rattle.std.specs.Str.Parse.{digits_value, without_leading_plus}

@@ -1,6 +1,11 @@
 pub mod Answers
 pub mod Asked
+pub mod Corrections
 pub mod Fields
+pub mod Forms
+pub mod Gates
 pub mod Laws
+pub mod Posted
 pub mod Questions
+pub mod Wishes
 pub mod Words

@@ -1,5 +1,5 @@
 -- What a request asks for.
-use Rattle.std.specs.Prelude.{◌≡◌, ◌||◌, ℕ, Bool, true, false, not, List, codes, bytes_eq, is_some, Option, Some, None, if◌then◌else◌}
+use Rattle.std.specs.Prelude.{◌||◌, ℕ, Bool, true, false, not, List, codes, bytes_eq, is_some, Option, Some, None, if◌then◌else◌}
 use Rattle.std.specs.Option.{option_and_then}
 use Rattle.std.specs.String.{string_bytes}
 use Rattle.http.specs.declared.request.Parts.{Parts}
@@ -16,6 +16,7 @@ use Rattle.pay_web.specs.declared.question.Question.TheVariants as question
 -- the page of an account that is asked for is that of one, and of a service day
 abbrev pub IsQuestion : Question → Type 0
 IsQuestion (question.Page asked) = IsAsked asked
+IsQuestion (question.Choice asked) = IsAsked asked
 IsQuestion _ = Unit {0}
 
 abbrev pub is_among : Hosts → List ℕ → Bool
@@ -38,6 +39,14 @@ page_or_bad None = question.BadQuery
 abbrev pub page_question : Bool → Option (List ℕ) → Question
 page_question week query = page_or_bad (option_and_then (asked_by week) query)
 
+-- what to correct of an account, or another query
+abbrev pub choice_or_bad : Option Asked → Question
+choice_or_bad (Some asked) = question.Choice asked
+choice_or_bad None = question.BadQuery
+
+abbrev pub choice_question : Option (List ℕ) → Question
+choice_question query = choice_or_bad (option_and_then (asked_by false) query)
+
 -- each path asks for one thing
 abbrev pub path_question : Uri → Question
 path_question uri =
@@ -46,6 +55,7 @@ path_question uri =
     else if bytes_eq (uri_path uri) (codes "/healthz") then question.Health
     else if bytes_eq (uri_path uri) (codes "/day") then page_question false (uri_query uri)
     else if bytes_eq (uri_path uri) (codes "/week") then page_question true (uri_query uri)
+    else if bytes_eq (uri_path uri) (codes "/correct") then choice_question (uri_query uri)
     else question.Unknown
 
 -- a request that only reads

@@ -1,6 +1,6 @@
 //! The account and the day that a query asks for.
-ghost use Rattle.std.specs.Prelude.{◌≡◌, ◌≤◌, option_copied, IfSome};
-ghost use Rattle.pay_web.specs.Asked.{IsAsked, account_of, asked_by, if_account, value_of};
+ghost use Rattle.std.specs.Prelude.{◌≡◌, ◌≤◌, codes, option_copied, IfSome};
+ghost use Rattle.pay_web.specs.Asked.{IsAsked, account_of, asked_by, asked_by_values, if_account, value_of};
 
 use pay_dates::read_day;
 
@@ -21,13 +21,21 @@ pub(crate) fn asked_by(query: &str, week: bool) -> Option<Asked>
     ensures in_range { IfSome result IsAsked }
 {
     let (account, day) = query.split_once('&')?;
+    asked_by_values(account, day, week)
+}
+
+/// What the fields `account=A` and `day=D` ask for.
+pub(crate) fn asked_by_values(account: &str, day: &str, week: bool) -> Option<Asked>
+    ensures asked { result ≡ asked_by_values week (value_of (codes "account=") account.now) (value_of (codes "day=") day.now) }
+    ensures in_range { IfSome result IsAsked }
+{
     let account = account_of(value_of(account, "account=")?)?;
     let day = read_day(value_of(day, "day=")?)?;
     Some(Asked { account, day, week })
 }
 
 /// What stands after a name, where the text begins with it.
-fn value_of<'a>(text: &'a str, name: &str) -> Option<&'a str>
+pub(crate) fn value_of<'a>(text: &'a str, name: &str) -> Option<&'a str>
     ensures { option_copied result ≡ value_of name.now text.now }
 {
     text.strip_prefix(name)

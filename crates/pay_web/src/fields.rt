@@ -55,6 +55,22 @@ fn add_kept(response: &mut Response) -> Result<(), AllocError>
     add(response, "connection", "close")
 }
 
+/// Answers with a status and all fields, and no body yet, which is to be of this content type.
+pub(crate) fn begin(
+    response: &mut Response,
+    status: StatusCode,
+    content_type: &'static str,
+) -> Result<(), AllocError>
+    requires blank { IsBlank response.old }
+    requires visible { IsTrue (is_visible_text content_type.now) }
+    ensures { OnOk result (IsResponse status (fields content_type.now) [] response.new) }
+{
+    response.status = status;
+    add_policy(response)?;
+    add_kept(response)?;
+    add(response, "content-type", content_type)
+}
+
 /// Answers with a status and a body of this content type.
 pub(crate) fn answer(
     response: &mut Response,
@@ -66,9 +82,6 @@ pub(crate) fn answer(
     requires visible { IsTrue (is_visible_text content_type.now) }
     ensures { OnOk result (IsResponse status (fields content_type.now) body response.new) }
 {
-    response.status = status;
-    add_policy(response)?;
-    add_kept(response)?;
-    add(response, "content-type", content_type)?;
+    begin(response, status, content_type)?;
     response.body.push(body)
 }

@@ -2,7 +2,7 @@
 ghost use Rattle.std.specs.Prelude.{◌≡◌, option_copied};
 ghost use Rattle.http.specs.Request.{head_of};
 ghost use Rattle.http_uri.specs.Uri.{uri_query};
-ghost use Rattle.pay_web.specs.Questions.{IsQuestion, is_for, page_question, path_question, question_of};
+ghost use Rattle.pay_web.specs.Questions.{IsQuestion, choice_question, is_for, page_question, path_question, question_of};
 
 use crate::asked::{Asked, asked_by};
 use crate::hosts::Hosts;
@@ -21,6 +21,8 @@ pub(crate) enum Question {
     Health,
     /// `/day?account=A&day=D` or `/week?account=A&day=D`: a page of an account.
     Page(Asked),
+    /// `/correct?account=A&day=D`: what to correct of an account.
+    Choice(Asked),
     /// Such a path with another query.
     BadQuery,
     /// Another path.
@@ -46,7 +48,7 @@ pub(crate) fn question_of(hosts: &Hosts, request: &Request<Bytes>) -> Question
 }
 
 /// Whether a request is for one of these hosts, by its `Host` field, and in a form that names no other.
-fn is_for(hosts: &Hosts, request: &Request<Bytes>) -> bool
+pub(crate) fn is_for(hosts: &Hosts, request: &Request<Bytes>) -> bool
     ensures { result ≡ is_for hosts.now (head_of request.now) }
 {
     if request.uri().authority().is_some() {
@@ -69,6 +71,7 @@ fn path_question(uri: &Uri) -> Question
         "/healthz" => Question::Health,
         "/day" => page_question(uri, false),
         "/week" => page_question(uri, true),
+        "/correct" => choice_question(uri),
         _ => Question::Unknown,
     }
 }
@@ -81,6 +84,20 @@ fn page_question(uri: &Uri, week: bool) -> Question
     match uri.query() {
         Some(query) => match asked_by(query, week) {
             Some(asked) => Question::Page(asked),
+            None => Question::BadQuery,
+        },
+        None => Question::BadQuery,
+    }
+}
+
+/// What a query asks for at the path of what to correct.
+fn choice_question(uri: &Uri) -> Question
+    ensures question { result ≡ choice_question (uri_query uri.now) }
+    ensures in_range { IsQuestion result }
+{
+    match uri.query() {
+        Some(query) => match asked_by(query, false) {
+            Some(asked) => Question::Choice(asked),
             None => Question::BadQuery,
         },
         None => Question::BadQuery,
