@@ -17,6 +17,8 @@ mod drawn;
 #[cfg(test)]
 mod faults;
 #[cfg(test)]
+mod fix_pages;
+#[cfg(test)]
 mod fixes;
 #[cfg(test)]
 mod given;

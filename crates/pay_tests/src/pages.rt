@@ -80,7 +80,8 @@ fn shows_a_day_and_its_week(rt: HostRuntime) {
     expect_page(&rt, day, DAY);
     let week = week_page(alloc, &editions, &taps, &fixes, 7, MONDAY + 1);
     expect_page(&rt, week, WEEK);
-    expect_page(&rt, form_page(alloc), FORM);
+    expect_page(&rt, form_page(alloc, false), FORM);
+    expect_page(&rt, form_page(alloc, true), CORRECTING_FORM);
 }
 
 /// The page of the Monday.
@@ -278,6 +279,31 @@ const FORM: &str = "<!DOCTYPE html>
 <p><label for=\"day\">Day</label>
 <input id=\"day\" name=\"day\" type=\"date\" min=\"1970-01-05\" max=\"2106-11-24\" required></p>
 <p><button type=\"submit\">Show its week through this day</button></p>
+</form>
+</main>
+</body>
+</html>
+";
+
+/// The same where corrections may be asked for.
+const CORRECTING_FORM: &str = "<!DOCTYPE html>
+<html lang=\"en\">
+<head>
+<meta charset=\"utf-8\">
+<meta name=\"viewport\" content=\"width=device-width, initial-scale=1\">
+<title>Why an account was charged</title>
+<link rel=\"stylesheet\" href=\"/style.css\">
+</head>
+<body>
+<main>
+<h1>Why an account was charged</h1>
+<form action=\"/week\" method=\"get\">
+<p><label for=\"account\">Account</label>
+<input id=\"account\" name=\"account\" type=\"number\" min=\"1\" max=\"4294967295\" required></p>
+<p><label for=\"day\">Day</label>
+<input id=\"day\" name=\"day\" type=\"date\" min=\"1970-01-05\" max=\"2106-11-24\" required></p>
+<p><button type=\"submit\">Show its week through this day</button>
+<button type=\"submit\" formaction=\"/correct\">Correct this day</button></p>
 </form>
 </main>
 </body>

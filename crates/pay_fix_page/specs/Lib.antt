@@ -1,0 +1,9 @@
+pub mod BackForms
+pub mod FixLines
+pub mod TapRows
+pub mod FixRows
+pub mod AskingForms
+pub mod Choosing
+pub mod Previews
+pub mod Sent
+pub mod Words

@@ -1,0 +1,165 @@
+//! The page of what came of a correction.
+ghost use Rattle.std.specs.Prelude.{◌≡◌, IfOk};
+ghost use Rattle.std.specs.String.{string_bytes};
+ghost use Rattle.pay_fix_page.specs.Sent.{done_text, done_title, outcome_of, sentence_of};
+
+use crate::back_forms::{BackForm, TakenBack};
+use crate::fix_lines::FixLine;
+use pay_html::Escaped;
+use pay_page::{DayLink, PageEnd, PageStart};
+use std::alloc::{AllocError, Global};
+use std::fmt;
+
+/// A correction that was sent, and the reply to it.
+#[derive(Clone, Copy)]
+pub struct Done<'a> {
+    /// The account.
+    pub account: u32,
+    /// The service day.
+    pub day: u32,
+    /// What the correction does, as its line said it after the account: `VOID 1 1`.
+    pub what: &'a str,
+    /// The staff number of the clerk.
+    pub staff: u32,
+    /// The sequence number of the correction.
+    pub seq: u32,
+    /// The reply line, without a newline.
+    pub reply: &'a str,
+}
+
+/// What came of a correction.
+#[derive(Clone, Copy)]
+enum Outcome {
+    /// It was accepted.
+    Kept,
+    /// It had been accepted before.
+    KeptBefore,
+    /// No reply came in time: it may be accepted or not.
+    Unknown,
+    /// It was refused.
+    Refused,
+}
+
+/// The line that was sent, the reply, and what that means.
+#[derive(Clone, Copy)]
+struct Told<'a> {
+    line: FixLine<'a>,
+    reply: &'a str,
+    outcome: Outcome,
+}
+
+/// The form that withdraws a correction, where it was accepted.
+#[derive(Clone, Copy)]
+struct Withdrawal<'a> {
+    outcome: Outcome,
+    form: BackForm<'a>,
+}
+
+/// What came of a correction, by the reply to it.
+fn outcome_of(reply: &str) -> Outcome
+    ensures { result ≡ outcome_of reply.now }
+{
+    if reply.starts_with("OK ") {
+        Outcome::Kept
+    } else if reply.starts_with("AGAIN ") {
+        Outcome::KeptBefore
+    } else if reply.starts_with("NO 52 ") {
+        Outcome::Unknown
+    } else {
+        Outcome::Refused
+    }
+}
+
+/// The same as a sentence.
+fn sentence_of(outcome: Outcome) -> &'static str
+    ensures { result.now ≡ sentence_of outcome }
+{
+    match outcome {
+        Outcome::Kept => "The correction is kept.",
+        Outcome::KeptBefore => "It was kept before: nothing was done twice.",
+        Outcome::Unknown => {
+            "It may have been kept, or not: look at the day before you correct it again."
+        }
+        Outcome::Refused => "It was refused, and nothing has changed.",
+    }
+}
+
+impl<'a> fmt::Display for Told<'a> {
+    ghost use Rattle.std.specs.Prelude.{Some};
+    ghost use Rattle.pay_fix_page.specs.Sent.{told};
+
+    ghost output = { λ it. Some (told it.line it.reply.now it.outcome) };
+
+    #[tactic(auto, unfolding(crate::specs::Sent::told))]
+    fn fmt<W: fmt::Write>(&self, f: &mut fmt::Formatter<W>) -> fmt::Result {
+        let line = self.line;
+        let reply = Escaped(self.reply);
+        let sentence = sentence_of(self.outcome);
+        write!(
+            f,
+            "<p>Sent: {line}</p>\n<p>Reply: <code>{reply}</code></p>\n<p>{sentence}</p>\n"
+        )
+    }
+}
+
+impl<'a> fmt::Display for Withdrawal<'a> {
+    ghost use Rattle.std.specs.Prelude.{Some};
+    ghost use Rattle.pay_fix_page.specs.Sent.{withdrawal_if};
+
+    ghost output = { λ it. Some (withdrawal_if it.outcome it.form) };
+
+    fn fmt<W: fmt::Write>(&self, f: &mut fmt::Formatter<W>) -> fmt::Result {
+        let form = self.form;
+        match self.outcome {
+            Outcome::Kept | Outcome::KeptBefore => write!(f, "{form}"),
+            Outcome::Unknown | Outcome::Refused => Ok(()),
+        }
+    }
+}
+
+/// The title of the page.
+fn title_of(alloc: Global, account: u32) -> Result<String, AllocError>
+    ensures { IfOk result (λ text. string_bytes text ≡ done_title account) }
+{
+    let mut text = String::new(alloc);
+    write!(text, "What came of a correction of account {account}")?;
+    Ok(text)
+}
+
+/// The page of what came of a correction, with a form that withdraws it unless it was refused. An `Err` is out of memory.
+pub fn done_page(alloc: Global, done: &Done<'_>) -> Result<String, AllocError>
+    ensures { IfOk result (λ text. string_bytes text ≡ done_text done.now) }
+{
+    let (account, day, staff, seq) = (done.account, done.day, done.staff, done.seq);
+    let title = title_of(alloc, account)?;
+    let start = PageStart {
+        title: title.as_str(),
+    };
+    let outcome = outcome_of(done.reply);
+    let told = Told {
+        line: FixLine {
+            staff,
+            seq,
+            account,
+            what: done.what,
+        },
+        reply: done.reply,
+        outcome,
+    };
+    let day_link = DayLink {
+        account,
+        day,
+        label: "The day",
+    };
+    let form = BackForm {
+        account,
+        day,
+        what: TakenBack::Fix(staff, seq),
+        button: "Withdraw it..",
+    };
+    let withdrawal = Withdrawal { outcome, form };
+    let end = PageEnd;
+    let mut text = String::new(alloc);
+    write!(text, "{start}{told}<p>{day_link}</p>\n{withdrawal}{end}")?;
+    Ok(text)
+}
