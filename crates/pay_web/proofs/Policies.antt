@@ -78,7 +78,8 @@ answer is_page r pages question.Misdirected is = with_fields r text is.headers
 module _ {P : Type 0} (known : Ghosts P) where
   made : (r : Response) (pages : P) (fix : Asked × _) → IsMade known pages fix r → Has r
   made r pages fix (inl page) = with_fields r html page.2.headers
-  made r pages fix (inr lost) = with_fields r html lost.0
+  made r pages fix (inr (inl lost)) = with_fields r html lost.headers
+  made r pages fix (inr (inr cut)) = with_fields r html cut.0
 
   wished : (r : Response) (asks : Wish) (before after : P) → IsWishAnswer known asks before (r, after) → Has r
   wished r (wish.Correction asked fix) before after is = made r after (asked, fix) is.1

@@ -48,9 +48,13 @@ IsRefusedWish BadForm response = IsLine 400 (codes "This form names no correctio
 IsRefusedWish Stale response = IsLine 403 (codes "This form is of an earlier start of the page: begin again.\n") response
 IsRefusedWish OverLimit response = IsLine 403 (codes "You may not give a Credit of so much.\n") response
 
--- all fields, but it is not told what came of a correction
+-- what is said where it is not known whether a correction was kept
+abbrev pub lost : List ℕ
+lost = codes "The service did not answer: it is not known whether the correction was kept. Reload this page to send the same again: it is kept once.\n"
+
+-- just that; or, where no memory was left for it, a fault of the server
 abbrev pub IsLost : Response → Type 0
-IsLost response = (fields_of response ≡ fields html) × ((response.status ≡ 503) ⊎ (response.status ≡ 500))
+IsLost response = IsResponse 503 (fields html) lost response ⊎ ((fields_of response ≡ fields html) × (response.status ≡ 500))
 
 -- what the page knows of the clerk who looks at it, and the token
 abbrev pub IsViewer : List ℕ × ClerkOf → Viewer → Type 0

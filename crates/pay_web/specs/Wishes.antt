@@ -1,5 +1,5 @@
 -- What a posted form asks for.
-use Rattle.std.specs.Prelude.{◌≡◌, ◌⊎◌, ◌++◌, ℕ, List, codes, decimal, bytes_eq, Option, Some, None, if◌then◌else◌, option_map}
+use Rattle.std.specs.Prelude.{◌≡◌, ◌++◌, ℕ, List, codes, decimal, bytes_eq, Option, Some, None, if◌then◌else◌, option_map}
 use Rattle.pay_clerks.specs.Words.{ClerkOf}
 use Rattle.pay_wire.specs.declared.command.SpelledFix.{SpelledFix}
 use Rattle.pay_web.specs.Asked.{IsAsked, value_of}
@@ -62,11 +62,11 @@ abbrev pub fill_said : ℕ → TapWords → List ℕ
 fill_said utc words = codes "FILL " ++ (decimal utc ++ (codes " " ++ (words.place ++ (codes " " ++ words.kind))))
 
 -- By which instants pages know: of a service day, and a local second of it.
-module _ {P : Type 0} (is_instant : P → ℕ → ℕ → ℕ → Type 0) (pages : P) where
-  -- a tap that is added says an instant that is that of its day and second; no tap is added where the form cannot be read, or there is no such instant
+module _ {P : Type 0} (is_instant : P → ℕ → ℕ → Option ℕ → Type 0) (pages : P) where
+  -- a tap that is added says the instant of its day and second; none is added where the form cannot be read, or there is no such instant
   abbrev pub IsTapSaidBy : ℕ → Option TapWords → Option (List ℕ) → Type 0
   IsTapSaidBy day None said = said ≡ None
-  IsTapSaidBy day (Some words) said = (said ≡ None) ⊎ ((utc : ℕ) × is_instant pages day words.second utc × (said ≡ Some (fill_said utc words)))
+  IsTapSaidBy day (Some words) said = (utc : Option ℕ) × is_instant pages day words.second utc × (said ≡ option_map (λ at. fill_said at words) utc)
 
   abbrev pub IsTapSaid : ℕ → List ℕ → Option (List ℕ) → Type 0
   IsTapSaid day rest = IsTapSaidBy day (tap_form rest)

@@ -1,5 +1,5 @@
 //! What puts corrections, and has the pages for it.
-ghost use Rattle.std.specs.Prelude.{IfOk, IfSome, List, ℕ};
+ghost use Rattle.std.specs.Prelude.{IfOk, List, Option, ℕ};
 ghost use Rattle.std.specs.String.{string_bytes};
 ghost use Rattle.pay_web.specs.Asked.{IsAsked};
 
@@ -28,8 +28,8 @@ pub trait Corrects {
     // this may be the page that shows this clerk what a correction does
     ghost is_preview: { Self → Asked × SpelledFix → Viewer → List ℕ → Type 0 };
 
-    // of a service day, at this local second of it, this is an instant
-    ghost is_instant: { Self → ℕ → ℕ → ℕ → Type 0 };
+    // of a service day, at this local second of it, this is the instant, if there is any
+    ghost is_instant: { Self → ℕ → ℕ → Option ℕ → Type 0 };
 
     // the first put this correction, once, and became the second
     ghost puts: { Self → SpelledFix → Self → Type 0 };
@@ -55,9 +55,9 @@ pub trait Corrects {
     /// The number that a correction gets which is made now.
     fn next_seq(&self) -> u32;
 
-    /// An instant of a service day, by its local second.
+    /// The instant of a service day, by its local second, if there is any.
     fn instant(&self, day: u32, second: u32) -> Option<u64>
-        ensures { IfSome result (is_instant self.now day second) };
+        ensures { is_instant self.now day second result };
 
     /// Puts a correction, once, and says what came of it. After an `Err` it may have been put or not.
     fn put(&mut self, asked: Asked, fix: &SpelledFix) -> Result<String, PageFault>
