@@ -6,7 +6,7 @@ use Rattle.clap.specs.ValueTests.{is_unsigned_in}
 use Rattle.std.specs.Prelude.{IfSome, ⊤, is_some}
 use Rattle.pay_dates.specs.Words.{day_of_text}
 use Rattle.pay_dates.proofs.ServiceDays.{day_no_hyphen}
-use Rattle.pay_words.specs.OneWord.{is_account, is_port}
+use Rattle.pay_words.specs.OneWord.{is_account}
 use Rattle.std.proofs.lemmas.Bool.Decides.{eqb_tells}
 use Rattle.pay_words.specs.Asked.{AreAuditWords, AreCheckWords, AreExplainWords, ArePageWords, AreRunWords, AreServeWords, AreStatementWords, Asked, HaveNoHyphens, Word, allowed, asked, many_by, many_given, word_kind, words_ask, option_asked, program_asked}
 use Rattle.pay_words.specs.Asked.{audit, audit_asked, audit_of, explain, explain_asked, explain_of, page, page_asked, page_of, rebuild, rebuild_asked, rebuild_of}
@@ -16,15 +16,16 @@ use Rattle.pay_words.specs.Asked as words
 use Rattle.pay_words.specs.Options as say
 use Rattle.pay_words.specs.Options.{AreParts, IsOption, Part, Said, Setting, StandApart, all_of, all_said, flag_value, help_wanted, is_flag, not_taken, plain_words, reader_of, values_of, words_of_parts}
 use Rattle.pay_words.specs.Options.{port_option, lanes_option, shards_option, sessions_option, close_option, control_option, ahead_option, refused_option, greeting_option, journal_option, sync_option, ledger_option, early_option}
-use Rattle.pay_words.specs.Options.{lint_option, against_option, after_option, week_option}
+use Rattle.pay_words.specs.Options.{lint_option, against_option, after_option, week_option, staff_option}
 use Rattle.pay_words.specs.Audit.{AreAuditParts, Audit, audit_grammar}
 use Rattle.pay_words.specs.Check.{AreCheckParts, CheckTexts, check_grammar, check_of_texts, may_check}
 use Rattle.pay_words.specs.Explain.{AreExplainParts, ExplainTexts, explain_grammar, explain_of_texts}
-use Rattle.pay_words.specs.Page.{ArePageParts, PageTexts, page_grammar, page_of_texts}
+use Rattle.pay_words.specs.Page.{ArePageParts, ArePorts, PageTexts, may_show, page_grammar, page_of_texts}
 use Rattle.pay_words.specs.Rebuild.{rebuild_grammar}
 use Rattle.pay_words.specs.Run.{AreRunParts, Run, first_given, flags, has_journal, is_given, listed, run_grammar}
 use Rattle.pay_words.specs.Serve.{AreInRange, ArePartsOf, ServeTexts, is_whole, numbers_of, serve_grammar}
 use Rattle.pay_words.specs.Statement.{AreStatementParts, StatementTexts, statement_grammar, statement_of_texts}
+use Rattle.pay_words.proofs.OptionEnds.{under_reads}
 use Rattle.pay_words.proofs.OptionRules.{flag_given}
 use Rattle.pay_words.proofs.OptionsTaken.{AreTaken, Fits, Once, no_values, not_both, parts_taken}
 use Rattle.pay_words.proofs.PartsSaid.{Says, says}
@@ -40,7 +41,7 @@ use Rattle.pay_words.proofs.WordsAfterPage.{page_apart, page_built, page_rules, 
 use Rattle.pay_words.proofs.WordsAfterRebuild.{rebuild_apart, rebuild_built, rebuild_rules}
 use Rattle.pay_words.proofs.WordsAfterReplay.{replay_long, replay_rules, replay_short}
 use Rattle.pay_words.proofs.WordsAfterRun.{run_apart, run_built, run_rules, run_shape}
-use Rattle.pay_words.proofs.WordsAfterServe.{serve_apart, serve_built, serve_rules, serve_shape, under_reads}
+use Rattle.pay_words.proofs.WordsAfterServe.{serve_apart, serve_built, serve_rules, serve_shape}
 use Rattle.pay_words.proofs.WordsAfterStatement.{statement_apart, statement_built, statement_rules, statement_shape}
 
 -- ---- words that are values alone
@@ -237,7 +238,7 @@ after_page rest = go (all_said page_grammar rest) (Level page_shape [] (stand []
   where
     made : (parts : List Part) (had : List Row) → Says page_grammar (codes "page") page_rules page_built page_apart (all_of parts) (without_dashes rest)
         → ((k : Setting) → Under had k (values_of k parts)) → (vs js ps : List Text) → plain_words parts ≡ vs → values_of journal_option parts ≡ js → values_of port_option parts ≡ ps
-        → AreWordsOf (page_of vs js ps) (codes "page" ∷ rest)
+        → AreWordsOf (page_of vs js ps (values_of control_option parts) (values_of greeting_option parts) (values_of staff_option parts)) (codes "page" ∷ rest)
     made parts had s under [] js ps is j p = tt
     made parts had s under (a ∷ []) js ps is j p = tt
     made parts had s under (a ∷ b ∷ c ∷ more) js ps is j p = tt
@@ -246,11 +247,30 @@ after_page rest = go (all_said page_grammar rest) (Level page_shape [] (stand []
     made parts had s under (a ∷ b ∷ []) (w ∷ []) [] is j p = tt
     made parts had s under (a ∷ b ∷ []) (w ∷ []) (n ∷ v ∷ more) is j p = tt
     made parts had s under (a ∷ b ∷ []) (w ∷ []) (n ∷ []) is j p = (
-      record { fares = a; zone = b; journal = w; port = n },
+      record {
+        fares = a;
+        zone = b;
+        journal = w;
+        port = n;
+        control = first_given (values_of control_option parts);
+        greeting = first_given (values_of greeting_option parts);
+        staff = first_given (values_of staff_option parts);
+      },
       parts,
       ap (λ (l : List Text). codes "page" ∷ l) s.0,
-      (s.1, is, j, p),
-      under_fits had port_option (values_of port_option parts) n p (under port_option),
+      (
+        s.1,
+        is,
+        j,
+        p,
+        under_listed had control_option (values_of control_option parts) (under control_option),
+        under_listed had greeting_option (values_of greeting_option parts) (under greeting_option),
+        under_listed had staff_option (values_of staff_option parts) (under staff_option),
+      ),
+      (
+        under_fits had port_option (values_of port_option parts) n p (under port_option),
+        under_reads had control_option (values_of control_option parts) (under control_option),
+      ),
       refl,
     )
 
@@ -433,7 +453,11 @@ allowed_too (explain e) ws h = go (is_some e.day) refl
     go : (fits : Bool) → is_some e.day ≡ fits → AreWordsOf (allowed (explain e)) ws
     go true is = rw is h
     go false is = rw is tt
-allowed_too (page p) ws h = h
+allowed_too (page p) ws h = go (may_show p) refl
+  where
+    go : (fits : Bool) → may_show p ≡ fits → AreWordsOf (allowed (page p)) ws
+    go true is = rw is h
+    go false is = rw is tt
 allowed_too (replay a b files) ws h = h
 allowed_too (serve s) ws h = go (is_whole s) refl
   where
@@ -510,6 +534,7 @@ module _ (r : Run) (parts : List Part) (are : AreRunParts r parts) where
   run_once against_option = none_of_run against_option (λ e. cc)
   run_once after_option = none_of_run after_option (λ e. cc)
   run_once week_option = none_of_run week_option (λ e. cc)
+  run_once staff_option = none_of_run staff_option (λ e. cc)
 
   run_taken : slice_index r.fares 0 ≢ 45 → slice_index r.zone 0 ≢ 45 → AreTaken run_grammar parts
   run_taken f z = record {
@@ -562,6 +587,7 @@ module _ (t : CheckTexts) (parts : List Part) (are : AreCheckParts t parts) wher
   check_once against_option = subst (Once against_option) (sym are.3) (once_listed against_option t.against (λ v. refl))
   check_once after_option = subst (Once after_option) (sym are.4) (once_listed after_option t.after (λ v. refl))
   check_once week_option = none_of_check week_option (λ e. cc)
+  check_once staff_option = none_of_check staff_option (λ e. cc)
 
   check_taken : slice_index t.fares 0 ≢ 45 → AreTaken check_grammar parts
   check_taken f = record {
@@ -601,6 +627,7 @@ module _ (t : StatementTexts) (parts : List Part) (are : AreStatementParts t par
   statement_once against_option = none_of_statement against_option (λ e. cc)
   statement_once after_option = none_of_statement after_option (λ e. cc)
   statement_once week_option = none_of_statement week_option (λ e. cc)
+  statement_once staff_option = none_of_statement staff_option (λ e. cc)
 
   statement_taken : slice_index t.fares 0 ≢ 45 → slice_index t.zone 0 ≢ 45 → is_account t.account ≡ true → is_some (day_of_text t.day) ≡ true → AreTaken statement_grammar parts
   statement_taken f z n d = record {
@@ -641,6 +668,7 @@ module _ (t : ExplainTexts) (parts : List Part) (are : AreExplainParts t parts) 
   explain_once against_option = none_of_explain against_option (λ e. cc)
   explain_once after_option = none_of_explain after_option (λ e. cc)
   explain_once week_option = subst (Once week_option) (sym are.4) (once_flags week_option refl t.week)
+  explain_once staff_option = none_of_explain staff_option (λ e. cc)
 
   explain_taken : slice_index t.fares 0 ≢ 45 → slice_index t.zone 0 ≢ 45 → is_account t.account ≡ true → is_some (day_of_text t.day) ≡ true → AreTaken explain_grammar parts
   explain_taken f z n d = record {
@@ -659,20 +687,20 @@ asks_explain ws name t parts is are may f z n d = ap asked is
     ∙ (ap (λ (x : Said). allowed (explain_asked x)) (parts_taken explain_grammar parts (explain_taken t parts are f z n d) may)
     ∙ (ap allowed (explain_is t parts are) ∙ (rw d refl)))
 
-module _ (t : PageTexts) (parts : List Part) (are : ArePageParts t parts) (fits : is_port t.port ≡ true) where
+module _ (t : PageTexts) (parts : List Part) (are : ArePageParts t parts) (fits : ArePorts t) where
   none_of_page : (k : Setting) → (IsOption page_grammar k → ⊥) → Once k (values_of k parts)
   none_of_page k none = subst (Once k) (sym (no_values page_grammar k none parts are.0)) tt
 
   page_once : (k : Setting) → Once k (values_of k parts)
-  page_once port_option = subst (Once port_option) (sym are.3) fits
+  page_once port_option = subst (Once port_option) (sym are.3) fits.0
   page_once lanes_option = none_of_page lanes_option (λ e. cc)
   page_once shards_option = none_of_page shards_option (λ e. cc)
   page_once sessions_option = none_of_page sessions_option (λ e. cc)
   page_once close_option = none_of_page close_option (λ e. cc)
-  page_once control_option = none_of_page control_option (λ e. cc)
+  page_once control_option = subst (Once control_option) (sym are.4) (once_number control_option t.control fits.1)
   page_once ahead_option = none_of_page ahead_option (λ e. cc)
   page_once refused_option = none_of_page refused_option (λ e. cc)
-  page_once greeting_option = none_of_page greeting_option (λ e. cc)
+  page_once greeting_option = subst (Once greeting_option) (sym are.5) (once_listed greeting_option t.greeting (λ v. refl))
   page_once journal_option = subst (Once journal_option) (sym are.2) refl
   page_once sync_option = none_of_page sync_option (λ e. cc)
   page_once ledger_option = none_of_page ledger_option (λ e. cc)
@@ -681,6 +709,7 @@ module _ (t : PageTexts) (parts : List Part) (are : ArePageParts t parts) (fits 
   page_once against_option = none_of_page against_option (λ e. cc)
   page_once after_option = none_of_page after_option (λ e. cc)
   page_once week_option = none_of_page week_option (λ e. cc)
+  page_once staff_option = subst (Once staff_option) (sym are.6) (once_listed staff_option t.staff (λ v. refl))
 
   page_taken : slice_index t.fares 0 ≢ 45 → slice_index t.zone 0 ≢ 45 → AreTaken page_grammar parts
   page_taken f z = record {
@@ -691,12 +720,13 @@ module _ (t : PageTexts) (parts : List Part) (are : ArePageParts t parts) (fits 
   }
 
   page_is : page_asked (all_of parts) ≡ page (page_of_texts t)
-  page_is = rw (are.1, are.2, are.3) refl
+  page_is = rw (are.1, are.2, are.3, are.4, are.5, are.6, first_listed t.control, first_listed t.greeting, first_listed t.staff) refl
 
 pub asks_page : (ws : List Text) (name : Text) (t : PageTexts) (parts : List Part) → ws ≡ name ∷ codes "page" ∷ words_of_parts parts → ArePageParts t parts → StandApart parts
-    → slice_index t.fares 0 ≢ 45 → slice_index t.zone 0 ≢ 45 → is_port t.port ≡ true → asked ws ≡ page (page_of_texts t)
-asks_page ws name t parts is are may f z n = ap asked is
-    ∙ (ap (λ (x : Said). allowed (page_asked x)) (parts_taken page_grammar parts (page_taken t parts are n f z) may) ∙ ap allowed (page_is t parts are n))
+    → slice_index t.fares 0 ≢ 45 → slice_index t.zone 0 ≢ 45 → ArePorts t → may_show (page_of_texts t) ≡ true → asked ws ≡ page (page_of_texts t)
+asks_page ws name t parts is are may f z fits shows = ap asked is
+    ∙ (ap (λ (x : Said). allowed (page_asked x)) (parts_taken page_grammar parts (page_taken t parts are fits f z) may)
+    ∙ (ap allowed (page_is t parts are fits) ∙ (rw shows refl)))
 
 many_values : (vs : List Text) → HaveNoHyphens vs → many_given vs ≡ values vs
 many_values [] h = refl
@@ -727,6 +757,7 @@ module _ (t : ServeTexts) (parts : List Part) (are : ArePartsOf t parts) (fits :
   serve_once against_option = none_of_serve against_option (λ e. cc)
   serve_once after_option = none_of_serve after_option (λ e. cc)
   serve_once week_option = none_of_serve week_option (λ e. cc)
+  serve_once staff_option = none_of_serve staff_option (λ e. cc)
   serve_once ledger_option = subst (Once ledger_option) (sym are.5) (once_listed ledger_option t.ledger (λ v. refl))
   serve_once early_option = subst (Once early_option) (sym are.6) (once_flags early_option refl t.early)
 
@@ -791,6 +822,7 @@ module _ (a : Audit) (parts : List Part) (are : AreAuditParts a parts) where
   audit_once against_option = none_of_audit against_option (λ e. cc)
   audit_once after_option = none_of_audit after_option (λ e. cc)
   audit_once week_option = none_of_audit week_option (λ e. cc)
+  audit_once staff_option = none_of_audit staff_option (λ e. cc)
 
   audit_taken : slice_index a.fares 0 ≢ 45 → slice_index a.zone 0 ≢ 45 → AreTaken audit_grammar parts
   audit_taken f z = record {

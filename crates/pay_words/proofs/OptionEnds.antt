@@ -1,10 +1,10 @@
 -- What the rows of a program with options have of each when its words have ended.
 use Rattle.std.proofs.Common.{◌≡◌, ◌∙◌, codes, true, false, refl, sym, ap, subst, List, [], ◌∷◌, ◌++◌, Option, Some}
-use Rattle.std.specs.Prelude.{option_and_then, slice_get}
+use Rattle.std.specs.Prelude.{IfSome, option_and_then, slice_get}
 use Rattle.std.specs.Str.{bytes_eq}
 use Rattle.clap.specs.Walk.{Row, Text, first_of, has_row, one_of, row_text, with_default}
 use Rattle.pay_words.specs.CommandLine.{flag_text}
-use Rattle.pay_words.specs.Options.{Place, Setting, is_flag, name_of}
+use Rattle.pay_words.specs.Options.{Place, Setting, is_flag, name_of, reader_of}
 use Rattle.pay_words.specs.Run.{first_given, is_given}
 use Rattle.pay_words.proofs.OptionRows.{a_row, default_added, default_row, found, found_new, found_other, no_row, row_with}
 use Rattle.pay_words.proofs.OptionRules.{flag_given, no_place, option_reading, place_name, same_name, setting_rule}
@@ -27,6 +27,12 @@ pub under_one : (rows : List Row) (k : Setting) (vs : List Text) → Under rows 
 under_one rows k [] h = rw h refl
 under_one rows k (v ∷ []) h = rw h.0 refl
 under_one rows k (v ∷ w ∷ more) h = absurd h
+
+-- what an option was given passed its reader
+pub under_reads : (rows : List Row) (k : Setting) (vs : List Text) → Under rows k vs → IfSome (first_given vs) (λ word. reader_of k word ≡ true)
+under_reads rows k [] h = tt
+under_reads rows k (v ∷ []) h = h.1
+under_reads rows k (v ∷ w ∷ more) h = absurd h
 
 -- a flag that was not given has its row all the same, and no other row is changed
 abbrev pub IsFinal : Setting → List Row → List Text → List Row → Type 0

@@ -16,7 +16,7 @@ use Rattle.clap.specs.declared.builder.value_parser.ValueParser.TheVariants as v
 use Rattle.clap.specs.declared.builder.value_parser.Reading.TheVariants as reading
 use Rattle.pay_words.specs.Options.{Grammar, Place, Setting, flag_value, is_flag, name_of, place_after, place_reader, reader_of, setting_named}
 use Rattle.pay_words.specs.Options.{port_option, lanes_option, shards_option, sessions_option, close_option, control_option, ahead_option, refused_option, greeting_option, journal_option, sync_option, ledger_option, early_option}
-use Rattle.pay_words.specs.Options.{lint_option, against_option, after_option, week_option}
+use Rattle.pay_words.specs.Options.{lint_option, against_option, after_option, week_option, staff_option}
 use Rattle.pay_words.specs.Options.{fares_place, zone_place, account_place, day_place, ledger_place}
 use Rattle.pay_words.proofs.OptionRows.{a_row, found, no_row, row_added, row_with}
 use Rattle.pay_words.proofs.WordKinds.{LongOptionsBut, Refuses, ShortOptions, help_filled, is_refusal, same_bytes}
@@ -84,6 +84,7 @@ parser_for lint_option = vp.Bool
 parser_for against_option = vp.String
 parser_for after_option = vp.String
 parser_for week_option = vp.Bool
+parser_for staff_option = vp.String
 
 -- the options that a program needs
 abbrev pub Needs : Type 0
@@ -108,6 +109,7 @@ is_needed lint_option = false
 is_needed against_option = false
 is_needed after_option = false
 is_needed week_option = false
+is_needed staff_option = false
 
 abbrev no_values : ValueRange
 no_values = record { start_inclusive = 0; end_inclusive = 0 }
@@ -143,6 +145,7 @@ option_reads lint_option word value = cc
 option_reads against_option word value = refl
 option_reads after_option word value = refl
 option_reads week_option word value = cc
+option_reads staff_option word value = refl
 
 pub option_reading : (needed : Bool) (k : Setting) → reading_by (setting_rule needed k) ≡ reading.AsWritten
 option_reading needed port_option = refl
@@ -162,6 +165,7 @@ option_reading needed lint_option = refl
 option_reading needed against_option = refl
 option_reading needed after_option = refl
 option_reading needed week_option = refl
+option_reading needed staff_option = refl
 
 -- ---- names
 
@@ -183,6 +187,7 @@ same_name lint_option = refl
 same_name against_option = refl
 same_name after_option = refl
 same_name week_option = refl
+same_name staff_option = refl
 
 -- options of one name are one
 pub same_setting : (j k : Setting) → (j ≡ k) ⊎ (bytes_eq (name_of j) (name_of k) ≡ false)
@@ -203,6 +208,7 @@ same_setting lint_option lint_option = inl refl
 same_setting against_option against_option = inl refl
 same_setting after_option after_option = inl refl
 same_setting week_option week_option = inl refl
+same_setting staff_option staff_option = inl refl
 same_setting _ _ = inr refl
 
 -- no option has the name of a value
@@ -224,6 +230,7 @@ no_place lint_option fares_place = (refl, refl)
 no_place against_option fares_place = (refl, refl)
 no_place after_option fares_place = (refl, refl)
 no_place week_option fares_place = (refl, refl)
+no_place staff_option fares_place = (refl, refl)
 no_place _ _ = (refl, refl)
 
 pub same_place : (p : Place) → bytes_eq (place_name p) (place_name p) ≡ true
@@ -332,6 +339,7 @@ of_flag P sync early lint week lint_option flag = lint
 of_flag P sync early lint week against_option flag = cc
 of_flag P sync early lint week after_option flag = cc
 of_flag P sync early lint week week_option flag = week
+of_flag P sync early lint week staff_option flag = cc
 
 flag_reads : (k : Setting) → is_flag k ≡ true → accepts false (parser_for k) flag_value ≡ true
 flag_reads k flag = of_flag (λ j. accepts false (parser_for j) flag_value ≡ true) refl refl refl refl k flag
@@ -364,6 +372,7 @@ refuses_value lint_option = refl
 refuses_value against_option = refl
 refuses_value after_option = refl
 refuses_value week_option = refl
+refuses_value staff_option = refl
 
 refuses_place : (p : Place) → is_refusal (refused_kind (place_parser p)) ≡ true
 refuses_place fares_place = refl

@@ -5,13 +5,13 @@ use Rattle.clap.specs.Simple.{subcommand_of}
 use Rattle.clap.specs.Kinds.{Kinds}
 use Rattle.clap.specs.Faults.{fault_of}
 use Rattle.clap.specs.declared.error.kind.ErrorKind.TheVariants.{DisplayHelp, DisplayVersion, InvalidSubcommand, OutOfMemory}
-use Rattle.pay_words.specs.Asked.{Asked, HaveNoHyphens, IsAnswer, IsJobOrMemory, allowed, asked, check_job, number_of, run, check, statement, explain, page, replay, serve, audit, rebuild, words_ask, help_asked, help_named, version_asked, usage, IsFaultOf, job_asked, AreJobWords, IsJobInRange, without_dashes}
+use Rattle.pay_words.specs.Asked.{Asked, HaveNoHyphens, IsAnswer, IsJobOrMemory, allowed, asked, check_job, number_of, page_job, run, check, statement, explain, page, replay, serve, audit, rebuild, words_ask, help_asked, help_named, version_asked, usage, IsFaultOf, job_asked, AreJobWords, IsJobInRange, without_dashes}
 use Rattle.pay_words.specs.Options.{Part, StandApart, words_of_parts}
 use Rattle.pay_words.specs.Audit.{AreAuditParts, Audit}
 use Rattle.pay_words.specs.Check.{AreCheckParts, Check, CheckTexts, check_of_texts, has_after_day, has_against, may_check}
 use Rattle.pay_words.specs.Explain.{AreExplainParts, Explain, ExplainTexts, explain_of_texts}
 use Rattle.pay_words.specs.Greeting.{is_greeting}
-use Rattle.pay_words.specs.Page.{ArePageParts, Page, PageTexts, page_of_texts}
+use Rattle.pay_words.specs.Page.{ArePageParts, ArePorts, Page, PageTexts, may_show, page_of_texts}
 use Rattle.pay_words.specs.Run.{AreRunParts, Run, has_journal}
 use Rattle.pay_words.specs.Serve.{AreInRange, ArePartsOf, Serve, ServeTexts, is_whole, last_port, numbers_of}
 use Rattle.pay_words.specs.Statement.{AreStatementParts, Statement, StatementTexts, statement_of_texts}
@@ -31,7 +31,7 @@ use Rattle.std.specs.Prelude.{IfSome, IsOkAnd, ⊤, is_some}
 use Rattle.pay_day.specs.Words.{IsDay}
 use Rattle.pay_dates.specs.Words.{day_of_text}
 use Rattle.pay_dates.proofs.ServiceDays.{day_is_day}
-use Rattle.pay_words.specs.OneWord.{is_account, is_port}
+use Rattle.pay_words.specs.OneWord.{is_account}
 use Rattle.pay_words.specs.declared.words.Job.{Job}
 use Rattle.pay_words.specs.declared.words.Job.TheVariants.{Run as RunJob, Check as CheckJob, Statement as StatementJob, Explain as ExplainJob, Page as PageJob, Replay, Serve as ServeJob, Stay as StayJob, Audit as AuditJob, Rebuild}
 use Rattle.pay_words.specs.declared.words.WordsFault.{WordsFault}
@@ -214,6 +214,9 @@ page_texts m f p same gives =
       first_value-rows f (codes "ZONE") ∙ (ap (first_of (codes "ZONE")) rows_are ∙ h.1),
       first_value-rows f (codes "journal") ∙ (ap (first_of (codes "journal")) rows_are ∙ h.2),
       one_text-rows f (codes "port") ∙ (ap (one_of (codes "port")) rows_are ∙ h.3),
+      one_text-rows f (codes "control") ∙ (ap (one_of (codes "control")) rows_are ∙ h.4),
+      first_value-rows f (codes "greeting") ∙ (ap (first_of (codes "greeting")) rows_are ∙ h.5),
+      first_value-rows f (codes "staff") ∙ (ap (first_of (codes "staff")) rows_are ∙ h.6),
     )
 
 -- the matches of `replay` have its values
@@ -302,7 +305,7 @@ pub record ReadsJobs (m : ArgMatches) (r : Result Job WordsFault) : Type 0 where
   pub of_check : (c : Check) → GivesCheck m c → IsAnswer (allowed (check c)) r
   pub of_statement : (s : Statement) → GivesStatement m s → IsAnswer (allowed (statement s)) r
   pub of_explain : (e : Explain) → GivesExplain m e → IsAnswer (allowed (explain e)) r
-  pub of_page : (p : Page) → GivesPage m p → IsOkAnd r (λ job. job_asked job ≡ page p)
+  pub of_page : (p : Page) → GivesPage m p → IsAnswer (allowed (page p)) r
   pub of_replay : (fares zone : Text) (files : List Text) → GivesReplay m fares zone files → IsJobOrMemory (replay fares zone files) r
   pub of_serve : (s : Serve) → GivesServe m s → IsAnswer (allowed (serve s)) r
   pub of_audit : (a : Audit) → GivesAudit m a → IsOkAnd r (λ job. job_asked job ≡ audit a)
@@ -313,7 +316,7 @@ job_read m (run y) r h reads = answer_answers (allowed (run y)) r (reads.of_run 
 job_read m (check c) r h reads = answer_answers (allowed (check c)) r (reads.of_check c h)
 job_read m (statement s) r h reads = answer_answers (allowed (statement s)) r (reads.of_statement s h)
 job_read m (explain e) r h reads = answer_answers (allowed (explain e)) r (reads.of_explain e h)
-job_read m (page p) r h reads = job_answers (page p) r (reads.of_page p h)
+job_read m (page p) r h reads = answer_answers (allowed (page p)) r (reads.of_page p h)
 job_read m (replay a b files) r h reads = memory_answers (replay a b files) r (reads.of_replay a b files h)
 job_read m (serve s) r h reads = answer_answers (allowed (serve s)) r (reads.of_serve s h)
 job_read m (audit a) r h reads = job_answers (audit a) r (reads.of_audit a h)
@@ -351,12 +354,13 @@ by_memory x y Usage e task (inl h) = absurd (subst IsTask (sym e ∙ h) task)
 by_memory x y Usage e task (inr h) = absurd (subst IsTask (sym e ∙ h) task)
 by_memory x y Memory e task h = refl
 
--- what is asked for has its journal, its day, its other fare file, or what its form of a service needs
+-- what is asked for has its journal, its day, its other fare file, its clerks, or what its form of a service needs
 abbrev IsAllowed : Asked → Type 0
 IsAllowed (run r) = has_journal r ≡ true
 IsAllowed (check c) = may_check c ≡ true
 IsAllowed (statement s) = is_some s.day ≡ true
 IsAllowed (explain e) = is_some e.day ≡ true
+IsAllowed (page p) = may_show p ≡ true
 IsAllowed (serve s) = is_whole s ≡ true
 IsAllowed _ = ⊤
 
@@ -386,7 +390,11 @@ asked_is_allowed (explain e) = go (is_some e.day) refl
     go : (t : Bool) → is_some e.day ≡ t → IsAllowed (allowed (explain e))
     go true is = rw is is
     go false is = rw is tt
-asked_is_allowed (page p) = tt
+asked_is_allowed (page p) = go (may_show p) refl
+  where
+    go : (t : Bool) → may_show p ≡ t → IsAllowed (allowed (page p))
+    go true is = rw is is
+    go false is = rw is tt
 asked_is_allowed (replay a b files) = tt
 asked_is_allowed (audit a) = tt
 asked_is_allowed (rebuild fares ledger) = tt
@@ -428,6 +436,12 @@ room_left control port lanes is =
     let each = both (not (control == port)) (nat_le lanes 14) is in
     (λ same. true≢false (sym (eq-eqb control port same) ∙ not-true (control == port) each.0), leb-true lanes 14 each.1)
 
+-- the port at which pages ask a service is in its range, and another than that of the pages
+control_in_range : (port : ℕ) (control : Option ℕ) → IfSome control (λ k. (1 ≤ k) × (k ≤ 65_535)) → option_map_or (λ k. not (k == port)) control true ≡ true
+    → IfSome control (λ k. (1 ≤ k) × (k ≤ 65_535) × (k ≢ port))
+control_in_range port None within own = tt
+control_in_range port (Some k) within own = (within.0, within.1, λ same. true≢false (sym (eq-eqb k port same) ∙ not-true (k == port) own))
+
 -- a greeting that is given may be one
 greets : {S : Type 0} (text_of : S → Text) (greeting : Option S) → option_map_or is_greeting (option_map text_of greeting) true ≡ true → IfSome greeting (λ s. is_greeting (text_of s) ≡ true)
 greets text_of None is = tt
@@ -450,7 +464,11 @@ job_in_range ws (ExplainJob w) e =
     (account.0, account.1, day_is_day made.0.day w.day (ap (λ (x : Explain). x.day) made.5))
 job_in_range ws (PageJob w) e =
     let made = job_words_are ws (PageJob w) e in
-    number_in_range 1 65_535 made.0.port w.port made.4 (ap (λ (p : Page). p.port) made.5)
+    let port = number_in_range 1 65_535 made.0.port w.port made.4.0 (ap (λ (p : Page). p.port) made.5) in
+    let control = given_in_range 1 65_535 made.0.control (page_job w).control made.4.1 (ap (λ (p : Page). p.control) made.5) in
+    let shows = both _ _ (subst IsAllowed e (asked_is_allowed (words_ask ws))) in
+    let own = both _ _ shows.1 in
+    (port.0, port.1, control_in_range w.port w.control control own.0, greets (λ s. s.now) w.greeting own.1, shows.0)
 job_in_range ws (Replay w) e = (subst (λ (x : Asked). AreWordsOf x (drop 1 ws)) e (in_order ws)).1
 job_in_range ws (ServeJob w) e =
     let made = job_words_are ws (ServeJob w) e in
@@ -515,8 +533,8 @@ module _ (r : Result Job WordsFault) (ws : List Text) (ok : IfOk r (λ job. aske
   result_explain name t parts is are may f z n d = job_or_memory r ws (explain (explain_of_texts t)) ok err (asks_explain ws name t parts is are may f z n d) tt
 
   pub result_page : (name : Text) (t : PageTexts) (parts : List Part) → ws ≡ name ∷ codes "page" ∷ words_of_parts parts → ArePageParts t parts → StandApart parts
-      → slice_index t.fares 0 ≢ 45 → slice_index t.zone 0 ≢ 45 → is_port t.port ≡ true → IsJobOrMemory (page (page_of_texts t)) r
-  result_page name t parts is are may f z n = job_or_memory r ws (page (page_of_texts t)) ok err (asks_page ws name t parts is are may f z n) tt
+      → slice_index t.fares 0 ≢ 45 → slice_index t.zone 0 ≢ 45 → ArePorts t → may_show (page_of_texts t) ≡ true → IsJobOrMemory (page (page_of_texts t)) r
+  result_page name t parts is are may f z fits shows = job_or_memory r ws (page (page_of_texts t)) ok err (asks_page ws name t parts is are may f z fits shows) tt
 
   pub result_replay : (name fares zone file : Text) (files : List Text) → ws ≡ name ∷ codes "replay" ∷ fares ∷ zone ∷ file ∷ files
       → slice_index fares 0 ≢ 45 → slice_index zone 0 ≢ 45 → HaveNoHyphens (file ∷ files) → IsJobOrMemory (replay fares zone (file ∷ files)) r

@@ -1,6 +1,6 @@
 -- What `clap` makes of the words after `serve`.
 use Rattle.std.proofs.Common.{◌≡◌, ◌∙◌, ◌+◌, codes, true, false, refl, sym, ap, subst, List, [], ◌∷◌, ◌++◌, Some, None}
-use Rattle.std.specs.Prelude.{IfSome, fold, min, option_map}
+use Rattle.std.specs.Prelude.{fold, min, option_map}
 use Rattle.std.specs.Str.{bytes_eq}
 use Rattle.clap.specs.Lexer.{usize_max}
 use Rattle.clap.specs.Walk.{Row, Rule, Text, arg_by_index, idle, one_of, with_default}
@@ -9,11 +9,11 @@ use Rattle.clap.specs.Kinds.{Kinds}
 use Rattle.clap.specs.Faults.{check_fault}
 use Rattle.pay_words.specs.Asked.{serve_asked, serve_of}
 use Rattle.pay_words.specs.CommandLine.{flag_text}
-use Rattle.pay_words.specs.Options.{Part, Place, Said, Setting, all_of, all_said, help_wanted, name_of, not_taken, place_after, plain_words, reader_of, values_of}
+use Rattle.pay_words.specs.Options.{Part, Place, Said, Setting, all_of, all_said, help_wanted, name_of, not_taken, place_after, plain_words, values_of}
 use Rattle.pay_words.specs.Options.{fares_place, zone_place, port_option, lanes_option, shards_option, sessions_option, close_option, control_option, ahead_option, refused_option, greeting_option, journal_option, ledger_option, early_option}
 use Rattle.pay_words.specs.Run.{first_given, is_given}
 use Rattle.pay_words.specs.Serve.{serve_grammar}
-use Rattle.pay_words.proofs.OptionEnds.{IsFinal, flag_final, places_final, under_final, under_first, under_one}
+use Rattle.pay_words.proofs.OptionEnds.{IsFinal, flag_final, places_final, under_final, under_first, under_one, under_reads}
 use Rattle.pay_words.proofs.OptionRows.{no_default_faults, no_defaults}
 use Rattle.pay_words.proofs.OptionRules.{IsBuilt, is_needed, position_of, rule_at, rule_by_long, rules_for, setting_rule}
 use Rattle.pay_words.proofs.WordLevels.{Level, rows_from}
@@ -54,12 +54,6 @@ serve_built = record {
   next = serve_next;
   defaults = λ rows. no_default_faults serve_rules rows (refl, (refl, (refl, (refl, (refl, (refl, (refl, (refl, (refl, (refl, (refl, (refl, (refl, (refl, (refl, tt)))))))))))))));
 }
-
--- what an option was given passed its reader
-pub under_reads : (rows : List Row) (k : Setting) (vs : List Text) → Under rows k vs → IfSome (first_given vs) (λ word. reader_of k word ≡ true)
-under_reads rows k [] h = tt
-under_reads rows k (v ∷ []) h = h.1
-under_reads rows k (v ∷ w ∷ more) h = absurd h
 
 -- what is asked for by all that was given, and what `clap` says of it
 finish : (vs ps ls ns ks ds cs hs us ts js gs es : List Text) (rows : List Row) → Places serve_grammar.places vs rows → Under rows port_option ps → Under rows lanes_option ls

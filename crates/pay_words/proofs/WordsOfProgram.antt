@@ -14,8 +14,8 @@ use Rattle.pay_words.specs.Asked as words
 use Rattle.pay_words.specs.Audit.{Audit}
 use Rattle.pay_words.specs.Check.{Check, CheckTexts, check_of_texts}
 use Rattle.pay_words.specs.Explain.{Explain, ExplainTexts, explain_of_texts}
-use Rattle.pay_words.specs.OneWord.{is_account, is_port}
-use Rattle.pay_words.specs.Page.{Page, PageTexts, page_of_texts}
+use Rattle.pay_words.specs.OneWord.{is_account}
+use Rattle.pay_words.specs.Page.{ArePorts, Page, PageTexts, page_of_texts}
 use Rattle.pay_words.specs.Run.{Run}
 use Rattle.pay_words.specs.Serve.{AreInRange, Serve, ServeTexts, numbers_of}
 use Rattle.pay_words.specs.Statement.{Statement, StatementTexts, statement_of_texts}
@@ -78,7 +78,7 @@ ComesWithJournal e sub = (t : ExplainTexts) × (rows : List Row) × (sub ≡ Som
 
 -- the matches are of words that `page` is given, of these values
 abbrev pub ComesWithPort : Page → Option (Text × List Row) → Type 0
-ComesWithPort p sub = (t : PageTexts) × (rows : List Row) × (sub ≡ Some (codes "page", rows)) × HavePageTexts rows t × (is_port t.port ≡ true) × (page_of_texts t ≡ p)
+ComesWithPort p sub = (t : PageTexts) × (rows : List Row) × (sub ≡ Some (codes "page", rows)) × HavePageTexts rows t × ArePorts t × (page_of_texts t ≡ p)
 
 -- the matches are of words that `serve` is given, of these numbers
 abbrev pub ComesWithOptions : Serve → Option (Text × List Row) → Type 0

@@ -26,12 +26,12 @@ pub use Rattle.pay_words.specs.OneWord.{Reader, any_text, is_account, is_port, n
 pub use Rattle.pay_words.specs.Options.{HasNoHyphen}
 use Rattle.pay_words.specs.Options.{Part, Said, StandApart, all_of, all_said, help_wanted, not_taken, plain, apart, joined, plain_words, values_of, words_of_parts}
 use Rattle.pay_words.specs.Options.{port_option, lanes_option, shards_option, sessions_option, close_option, control_option, ahead_option, refused_option, greeting_option, journal_option, sync_option, ledger_option, early_option}
-use Rattle.pay_words.specs.Options.{lint_option, against_option, after_option, week_option}
+use Rattle.pay_words.specs.Options.{lint_option, against_option, after_option, week_option, staff_option}
 use Rattle.pay_words.specs.Audit.{AreAuditParts, Audit, audit_grammar}
 use Rattle.pay_words.specs.Check.{AreCheckParts, Check, CheckTexts, check_grammar, check_of_texts, has_against, may_check}
 use Rattle.pay_words.specs.Explain.{AreExplainParts, Explain, ExplainTexts, explain_grammar, explain_of_texts}
 use Rattle.pay_words.specs.Greeting.{is_greeting}
-use Rattle.pay_words.specs.Page.{ArePageParts, Page, PageTexts, page_grammar, page_of_texts}
+use Rattle.pay_words.specs.Page.{ArePageParts, ArePorts, Page, PageTexts, has_control, may_show, page_grammar, page_of_texts}
 use Rattle.pay_words.specs.Rebuild.{rebuild_grammar}
 use Rattle.pay_words.specs.Run.{AreRunParts, Run, first_given, has_journal, is_given, run_grammar}
 use Rattle.pay_words.specs.Serve.{AreInRange, ArePartsOf, Serve, ServeTexts, is_whole, last_port, numbers_of, serve_grammar}
@@ -166,19 +166,23 @@ explain_asked (all_of parts) = explain_of (plain_words parts) (values_of journal
 explain_asked help_wanted = help_asked
 explain_asked not_taken = usage
 
--- two values, one journal and one port
-abbrev pub page_of : List Text → List Text → List Text → Asked
-page_of (fares ∷ zone ∷ []) (j ∷ []) (p ∷ []) = page (page_of_texts (record {
+-- two values, one journal, one port, and what each other option was given
+abbrev pub page_of : List Text → List Text → List Text → List Text → List Text → List Text → Asked
+page_of (fares ∷ zone ∷ []) (j ∷ []) (p ∷ []) c t s = page (page_of_texts (record {
   fares = fares;
   zone = zone;
   journal = j;
   port = p;
+  control = first_given c;
+  greeting = first_given t;
+  staff = first_given s;
 }))
-page_of _ _ _ = usage
+page_of _ _ _ _ _ _ = usage
 
 -- `page FARES ZONE` and its options
 abbrev pub page_asked : Said → Asked
 page_asked (all_of parts) = page_of (plain_words parts) (values_of journal_option parts) (values_of port_option parts)
+    (values_of control_option parts) (values_of greeting_option parts) (values_of staff_option parts)
 page_asked help_wanted = help_asked
 page_asked not_taken = usage
 
@@ -266,13 +270,14 @@ abbrev pub words_ask : List Text → Asked
 words_ask (name ∷ program ∷ rest) = program_asked program rest
 words_ask _ = usage
 
--- a service ends or stays, a run without a journal brings no lines to the disk, a day is one, and days up to one are
--- compared with another fare file alone
+-- a service ends or stays, a run without a journal brings no lines to the disk, a day is one, days up to one are
+-- compared with another fare file alone, and pages ask a service at a port of their own, without which they have no clerks
 abbrev pub allowed : Asked → Asked
 allowed (run r) = if has_journal r then run r else usage
 allowed (check c) = if may_check c then check c else usage
 allowed (statement s) = if is_some s.day then statement s else usage
 allowed (explain e) = if is_some e.day then explain e else usage
+allowed (page p) = if may_show p then page p else usage
 allowed (serve s) = if is_whole s then serve s else usage
 allowed what = what
 
@@ -329,6 +334,9 @@ page_job w = record {
   zone = w.zone.now;
   journal = w.journal.now;
   port = w.port;
+  control = w.control;
+  greeting = option_map (λ s. s.now) w.greeting;
+  staff = option_map (λ s. s.now) w.staff;
 }
 
 abbrev pub served_job : ServeWords → Serve
@@ -428,7 +436,7 @@ AreExplainWords e words = (t : ExplainTexts) × (parts : List Part) × (words �
 -- the words of `page` do
 abbrev pub ArePageWords : Page → List Text → Type 0
 ArePageWords p words = (t : PageTexts) × (parts : List Part) × (words ≡ codes "page" ∷ words_of_parts parts)
-    × ArePageParts t parts × (is_port t.port ≡ true) × (page_of_texts t ≡ p)
+    × ArePageParts t parts × ArePorts t × (page_of_texts t ≡ p)
 
 -- the words of `serve` do
 abbrev pub AreServeWords : Serve → List Text → Type 0
@@ -453,14 +461,16 @@ AreJobWords (AuditJob w) words = AreAuditWords (audit_job w) words
 AreJobWords (Rebuild w) words = words ≡ codes "rebuild" ∷ w.fares.now ∷ w.ledger.now ∷ []
 
 -- the numbers of a job are in their ranges, what is synced is a journal, days up to one are compared with another
--- fare file, there is a journal to be replayed, the staff of a service that stays have a port of their own, and its
--- greeting is one, where it has any
+-- fare file, there is a journal to be replayed, the staff of a service that stays have a port of their own, also where
+-- pages ask something of them, without which pages have no clerks, and a greeting is one, where there is any
 abbrev pub IsJobInRange : Job → Type 0
 IsJobInRange (RunJob w) = has_journal (run_job w) ≡ true
 IsJobInRange (CheckJob w) = (has_against (check_job w) ≡ true) × IfSome w.after IsDay
 IsJobInRange (StatementJob w) = (1 ≤ w.account) × (w.account ≤ MOST_ACCOUNT) × IsDay w.day
 IsJobInRange (ExplainJob w) = (1 ≤ w.account) × (w.account ≤ MOST_ACCOUNT) × IsDay w.day
 IsJobInRange (PageJob w) = (1 ≤ w.port) × (w.port ≤ MOST_PORT)
+    × IfSome w.control (λ control. (1 ≤ control) × (control ≤ MOST_PORT) × (control ≢ w.port))
+    × IfSome w.greeting (λ text. is_greeting text.now ≡ true) × (has_control (page_job w) ≡ true)
 IsJobInRange (Replay w) = texts w.files.items ≢ []
 IsJobInRange (ServeJob w) = (1 ≤ w.port) × (1 ≤ w.lanes) × (w.lanes ≤ MOST_SERVED_LANES) × (last_port w.port w.lanes ≤ MOST_PORT)
     × (1 ≤ w.shards) × (w.shards ≤ MOST_SHARDS) × (1 ≤ w.sessions) × (w.sessions ≤ MOST_SESSIONS) × IsDay w.close
@@ -530,11 +540,12 @@ ExplainIsTaken words result = (name : Text) (t : ExplainTexts) (parts : List Par
     → is_some (day_of_text t.day) ≡ true
     → IsJobOrMemory (explain (explain_of_texts t)) result
 
--- two words with no hyphen before them, and the journal and the port that are needed, in whatever order, are those of
--- `page`
+-- two words with no hyphen before them, the journal and the port that are needed, and perhaps the port for the staff of a
+-- service, with its greeting and the file of the clerks who may correct, in whatever order, are those of `page`
 abbrev pub PageIsTaken : List Text → Result Job WordsFault → Type 0
 PageIsTaken words result = (name : Text) (t : PageTexts) (parts : List Part) → words ≡ name ∷ codes "page" ∷ words_of_parts parts
-    → ArePageParts t parts → StandApart parts → HasNoHyphen t.fares → HasNoHyphen t.zone → is_port t.port ≡ true
+    → ArePageParts t parts → StandApart parts → HasNoHyphen t.fares → HasNoHyphen t.zone → ArePorts t
+    → may_show (page_of_texts t) ≡ true
     → IsJobOrMemory (page (page_of_texts t)) result
 
 -- three words or more with no hyphen before them are the values of `replay`
@@ -1219,7 +1230,15 @@ abbrev page_words : List Text → List Text
 page_words options = codes "page" ∷ codes "a" ∷ codes "b" ∷ options
 
 abbrev plain_page : Page
-plain_page = record { fares = codes "a"; zone = codes "b"; journal = codes "j"; port = 8_080 }
+plain_page = record {
+  fares = codes "a";
+  zone = codes "b";
+  journal = codes "j";
+  port = 8_080;
+  control = None;
+  greeting = None;
+  staff = None;
+}
 
 page_row : row (page_words (codes "--journal" ∷ codes "j" ∷ codes "--port" ∷ codes "8080" ∷ [])) ≡ page plain_page
 unfolding chars
@@ -1265,6 +1284,77 @@ page_last_port_row = refl
 page_beyond_ports_row : row (page_words (codes "--journal=j" ∷ codes "--port=65536" ∷ [])) ≡ usage
 unfolding chars
 page_beyond_ports_row = refl
+
+-- corrections are sent to a port for staff, by the clerks in a file
+abbrev correcting_page : Page
+correcting_page = record plain_page { control = Some 9_100; staff = Some (codes "s") }
+
+page_corrections_row : row (page_words (codes "--journal=j" ∷ codes "--port=8080" ∷ codes "--control" ∷ codes "9100" ∷ codes "--staff" ∷ codes "s" ∷ []))
+    ≡ page correcting_page
+unfolding chars
+page_corrections_row = refl
+
+-- also where both stand before the values; the name of a file that begins with a hyphen stands after an equals sign
+page_corrections_first_row : row (codes "page" ∷ codes "--staff=-s" ∷ codes "--control=+09100" ∷ codes "a" ∷ codes "--port=8080" ∷ codes "--journal=j" ∷ codes "b" ∷ [])
+    ≡ page (record correcting_page { staff = Some (codes "-s") })
+unfolding chars
+page_corrections_first_row = refl
+
+page_staff_hyphen_row : row (page_words (codes "--journal=j" ∷ codes "--port=8080" ∷ codes "--control=9100" ∷ codes "--staff" ∷ codes "-s" ∷ [])) ≡ usage
+unfolding chars
+page_staff_hyphen_row = refl
+
+-- a service is asked without clerks too, with a greeting or none
+page_control_row : row (page_words (codes "--journal=j" ∷ codes "--port=8080" ∷ codes "--control=9100" ∷ []))
+    ≡ page (record plain_page { control = Some 9_100 })
+unfolding chars
+page_control_row = refl
+
+page_greeting_row : row (page_words (codes "--journal=j" ∷ codes "--port=8080" ∷ codes "--greeting" ∷ codes "hi there" ∷ codes "--control=9100" ∷ []))
+    ≡ page (record plain_page { control = Some 9_100; greeting = Some (codes "hi there") })
+unfolding chars is_greeting
+page_greeting_row = refl
+
+-- which is one
+page_no_greeting_row : row (page_words (codes "--journal=j" ∷ codes "--port=8080" ∷ codes "--control=9100" ∷ codes "--greeting=STOP" ∷ [])) ≡ usage
+unfolding chars is_greeting
+page_no_greeting_row = refl
+
+-- and nobody is greeted where nobody is asked, and nobody corrects
+page_greeting_alone_row : row (page_words (codes "--journal=j" ∷ codes "--port=8080" ∷ codes "--greeting=hi" ∷ [])) ≡ usage
+unfolding chars is_greeting
+page_greeting_alone_row = refl
+
+page_no_control_row : row (page_words (codes "--journal=j" ∷ codes "--port=8080" ∷ codes "--staff=s" ∷ [])) ≡ usage
+unfolding chars
+page_no_control_row = refl
+
+-- the port is not that of the pages, however it is spelled, and it is one
+page_same_port_row : row (page_words (codes "--journal=j" ∷ codes "--port=8080" ∷ codes "--control=08080" ∷ codes "--staff=s" ∷ [])) ≡ usage
+unfolding chars
+page_same_port_row = refl
+
+page_control_0_row : row (page_words (codes "--journal=j" ∷ codes "--port=8080" ∷ codes "--control=0" ∷ codes "--staff=s" ∷ [])) ≡ usage
+unfolding chars
+page_control_0_row = refl
+
+page_control_beyond_row : row (page_words (codes "--journal=j" ∷ codes "--port=8080" ∷ codes "--control=65536" ∷ codes "--staff=s" ∷ [])) ≡ usage
+unfolding chars
+page_control_beyond_row = refl
+
+-- each is given once
+page_control_twice_row : row (page_words (codes "--journal=j" ∷ codes "--port=8080" ∷ codes "--control=9100" ∷ codes "--control=9100" ∷ codes "--staff=s" ∷ [])) ≡ usage
+unfolding chars
+page_control_twice_row = refl
+
+page_staff_twice_row : row (page_words (codes "--journal=j" ∷ codes "--port=8080" ∷ codes "--control=9100" ∷ codes "--staff=s" ∷ codes "--staff=s" ∷ [])) ≡ usage
+unfolding chars
+page_staff_twice_row = refl
+
+-- no other program has the file
+staff_of_serve_row : row (serve_words (codes "--control=9100" ∷ codes "--staff=s" ∷ files_words)) ≡ usage
+unfolding chars
+staff_of_serve_row = refl
 
 -- what was posted is not asked
 page_ledger_row : row (page_words (codes "--journal=j" ∷ codes "--port=8080" ∷ codes "--ledger=l" ∷ [])) ≡ usage

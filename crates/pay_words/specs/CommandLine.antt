@@ -19,8 +19,8 @@ use Rattle.pay_words.specs.Asked.{version_line}
 use Rattle.pay_words.specs.Audit.{Audit}
 use Rattle.pay_words.specs.Check.{Check, CheckTexts, check_of_texts}
 use Rattle.pay_words.specs.Explain.{Explain, ExplainTexts, explain_of_texts}
-use Rattle.pay_words.specs.OneWord.{is_account, is_port}
-use Rattle.pay_words.specs.Page.{Page, PageTexts, page_of_texts}
+use Rattle.pay_words.specs.OneWord.{is_account}
+use Rattle.pay_words.specs.Page.{ArePorts, Page, PageTexts, page_of_texts}
 use Rattle.pay_words.specs.Run.{Run}
 use Rattle.pay_words.specs.Serve.{AreInRange, Serve, ServeTexts, numbers_of}
 use Rattle.pay_words.specs.Statement.{Statement, StatementTexts, statement_of_texts}
@@ -91,9 +91,15 @@ abbrev pub explain_app : App
 explain_app = with_rule (with_rule (with_rule (with_account_and_day (new_app (codes "explain"))) (required_text (codes "journal")))
     (text_option (codes "ledger"))) (flag_option (codes "week"))
 
--- `page FARES ZONE --journal PATH --port P`
+-- the options of `page` by which a service is asked, and its clerks may correct
+abbrev pub with_control : App → App
+with_control app = with_rule (with_rule (with_rule app (optional_number (codes "control") 1 MOST_PORT)) (text_option (codes "greeting")))
+    (text_option (codes "staff"))
+
+-- `page FARES ZONE --journal PATH --port P [--control C [--greeting TEXT] [--staff FILE]]`
 abbrev pub page_app : App
-page_app = with_rule (with_rule (with_fares_and_zone (new_app (codes "page"))) (required_text (codes "journal"))) (required_option (codes "port") 1 MOST_PORT)
+page_app = with_control (with_rule (with_rule (with_fares_and_zone (new_app (codes "page"))) (required_text (codes "journal")))
+    (required_option (codes "port") 1 MOST_PORT))
 
 -- `replay FARES ZONE FILE..`
 abbrev pub replay_app : App
@@ -210,16 +216,20 @@ HasExplainTexts f t = (first_value f (codes "FARES") ≡ Some t.fares) × (first
 abbrev pub HavePageTexts : List Row → PageTexts → Type 0
 HavePageTexts rows t = (first_of (codes "FARES") rows ≡ Some t.fares) × (first_of (codes "ZONE") rows ≡ Some t.zone)
     × (first_of (codes "journal") rows ≡ Some t.journal) × (one_of (codes "port") rows ≡ Some t.port)
+    × (one_of (codes "control") rows ≡ t.control) × (first_of (codes "greeting") rows ≡ t.greeting)
+    × (first_of (codes "staff") rows ≡ t.staff)
 
--- the matches are those of `page` with these values, and a port in its range
+-- the matches are those of `page` with these values, and ports in their range
 abbrev pub GivesPage : ArgMatches → Page → Type 0
 GivesPage m p = (t : PageTexts) × (rows : List Row) × (subcommand_rows_of m ≡ Some (codes "page", rows))
-    × HavePageTexts rows t × (is_port t.port ≡ true) × (page_of_texts t ≡ p)
+    × HavePageTexts rows t × ArePorts t × (page_of_texts t ≡ p)
 
 -- the matches have the words that `page` is given
 abbrev pub HasPageTexts : Found → PageTexts → Type 0
 HasPageTexts f t = (first_value f (codes "FARES") ≡ Some t.fares) × (first_value f (codes "ZONE") ≡ Some t.zone)
     × (first_value f (codes "journal") ≡ Some t.journal) × (one_text f (codes "port") ≡ Some t.port)
+    × (one_text f (codes "control") ≡ t.control) × (first_value f (codes "greeting") ≡ t.greeting)
+    × (first_value f (codes "staff") ≡ t.staff)
 
 -- the subcommand that the matches have, with its values and its files
 abbrev pub values_and_files : Text × List Row → Text × Option Text × Option Text × Option (List Text)

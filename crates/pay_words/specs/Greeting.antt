@@ -1,7 +1,8 @@
 -- What a greeting may be.
-use Rattle.std.specs.Prelude.{◌≡◌, ℕ, ◌==◌, ◌&&◌, ◌||◌, nat_eq, nat_le, not, ◌++◌, length, replicate, codes, Bool, true, false, refl}
+use Rattle.std.specs.Prelude.{◌≡◌, ℕ, ◌==◌, ◌&&◌, ◌||◌, nat_eq, nat_le, not, ◌++◌, length, replicate, codes, Bool, true, false, refl, Option}
 use Rattle.std.specs.Char.{is_ascii_graphic}
 use Rattle.std.specs.List.{ends_with, list_all, starts_with}
+use Rattle.std.specs.Option.{option_map_or}
 use Rattle.std.specs.Str.{bytes_eq}
 use Rattle.pay_words.specs.declared.limits.TheConstants.{MOST_GREETING_BYTES}
 use Rattle.pay_words.specs.OneWord.{Text}
@@ -21,6 +22,10 @@ is_word_of_staff text = bytes_eq text (codes "STOP") || (bytes_eq text (codes "S
 unfoldable pub is_greeting : Text → Bool
 is_greeting text = nat_le 1 (length text) && (nat_le (length text) MOST_GREETING_BYTES
     && (list_all is_printable text && (not (begins_or_ends_with_space text) && not (is_word_of_staff text))))
+
+-- a greeting that is given is one
+abbrev pub may_greet : Option Text → Bool
+may_greet greeting = option_map_or is_greeting greeting true
 
 -- ---- worked rows
 

@@ -42,6 +42,7 @@ pub data Setting : Type 0 where
   against_option : Setting
   after_option : Setting
   week_option : Setting
+  staff_option : Setting
 
 abbrev pub name_of : Setting → Text
 name_of port_option = codes "port"
@@ -61,6 +62,7 @@ name_of lint_option = codes "lint"
 name_of against_option = codes "against"
 name_of after_option = codes "after"
 name_of week_option = codes "week"
+name_of staff_option = codes "staff"
 
 abbrev pub is_flag : Setting → Bool
 is_flag port_option = false
@@ -80,6 +82,7 @@ is_flag lint_option = true
 is_flag against_option = false
 is_flag after_option = false
 is_flag week_option = true
+is_flag staff_option = false
 
 -- the value that a flag is given with
 abbrev pub flag_value : Text
@@ -107,6 +110,7 @@ reader_of lint_option = is_flag_value
 reader_of against_option = any_text
 reader_of after_option = any_text
 reader_of week_option = is_flag_value
+reader_of staff_option = any_text
 
 -- what a program takes: values in these places, in order, and these options, in any
 pub record Grammar : Type 0 where
@@ -287,6 +291,7 @@ MayStandApart journal_option word = HasNoHyphen word
 MayStandApart ledger_option word = HasNoHyphen word
 MayStandApart against_option word = HasNoHyphen word
 MayStandApart after_option word = HasNoHyphen word
+MayStandApart staff_option word = HasNoHyphen word
 MayStandApart _ word = ⊤
 
 -- each value that is the next word after its option may be

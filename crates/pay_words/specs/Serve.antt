@@ -1,9 +1,9 @@
 -- What the words of `serve` say.
 use Rattle.std.specs.Prelude.{◌≡◌, ◌+◌, ◌-◌, ◌==◌, ◌&&◌, ◌||◌, ℕ, List, [], ◌∷◌, Bool, true, not, Option, Some, None, IfSome, is_some, option_map, nat_le}
-use Rattle.std.specs.Option.{option_and_then, option_map_or}
+use Rattle.std.specs.Option.{option_and_then}
 use Rattle.pay_dates.specs.Words.{day_of_text}
 use Rattle.pay_words.specs.declared.limits.TheConstants.{MOST_PORT, MOST_STAYING_LANES}
-use Rattle.pay_words.specs.Greeting.{is_greeting}
+use Rattle.pay_words.specs.Greeting.{may_greet}
 use Rattle.pay_words.specs.OneWord.{Text, is_ahead, is_lanes, is_port, is_sessions, is_shards, number_of}
 use Rattle.pay_words.specs.Options.{AreParts, Grammar, Part, plain_words, values_of, fares_place, zone_place}
 use Rattle.pay_words.specs.Options.{port_option, lanes_option, shards_option, sessions_option, close_option, control_option, ahead_option, refused_option, greeting_option, journal_option, ledger_option, early_option}
@@ -119,13 +119,9 @@ has_no_end s = not (is_some s.sessions) && not (is_some s.close)
 abbrev pub leaves_room : ℕ → Serve → Bool
 leaves_room control s = not (control == s.port) && nat_le s.lanes MOST_STAYING_LANES
 
--- its greeting is one, where it has any
-abbrev pub may_greet : Serve → Bool
-may_greet s = option_map_or is_greeting s.greeting true
-
 -- a service that stays has no end, leaves room for its staff, may greet so, and has journals and a ledger in a file
 abbrev pub may_stay : ℕ → Serve → Bool
-may_stay control s = ((has_no_end s && leaves_room control s) && may_greet s) && (is_some s.journal && is_some s.ledger)
+may_stay control s = ((has_no_end s && leaves_room control s) && may_greet s.greeting) && (is_some s.journal && is_some s.ledger)
 
 abbrev pub is_whole_by : Option ℕ → Serve → Bool
 is_whole_by None s = may_end s

@@ -20,7 +20,8 @@ pub const EXPLAIN: &str = "\
 Read journals, and say why an account's day or week was charged, in plain words";
 
 /// What `page` does.
-pub const PAGE: &str = "Show why accounts were charged, as web pages for customer service";
+pub const PAGE: &str = "\
+Show why accounts were charged, as web pages for customer service, and take corrections";
 
 /// What `replay` does.
 pub const REPLAY: &str = "\
@@ -136,6 +137,18 @@ last day that has a tap: today, if a service runs. Its date, such as
 /// What the option `--port` of `page` is.
 pub const PORT_OF_PAGES: &str = "The port of 127.0.0.1 that answers browsers, from 1 to 65535";
 
+/// What the option `--control` of `page` is.
+pub const CONTROL_OF_PAGES: &str = "\
+Ask a service: its port for staff, from 1 to 65535, and not P. What it has
+counted is shown at /metrics, and corrections are sent to it";
+
+/// What the option `--greeting` of `page` is.
+pub const GREETING_OF_PAGES: &str =
+    "The greeting of that service, if it has one. It needs --control";
+
+/// What the option `--staff` is.
+pub const STAFF: &str = "The file of the clerks who may correct. It needs --control";
+
 /// What the option `--port` of `serve` is.
 pub const PORT: &str = "\
 The port of the first lane, from 1 to 65535. Each further lane has the
@@ -196,7 +209,7 @@ FARES ZONE --port P --lanes L --shards N --control C --journal FOLDER --ledger F
   L        how many lanes there are, from 1 to 15; with C, from 1 to 14
   N        how many shards the accounts are spread over, from 1 to 16
   K        how many connections each lane serves, from 1 to 1000; then the service ends
-  C        the port for staff, who close days and end the service
+  C        the port for staff, who close days and end the service; of page, the one that is asked
   FILE     a journal, which run or serve wrote
   PATH     a journal, or a folder of journals, which is only read
   LEDGER   the SQLite file that days were closed into
@@ -204,10 +217,11 @@ FARES ZONE --port P --lanes L --shards N --control C --journal FOLDER --ledger F
 Further options: --journal FILE and --ledger FILE of run, and --sync with --journal; --lint and
 --against OLD of check, where OLD is another fare file, and --after DAY with --against; --journal
 FILE of statement, where it is only read; --ledger FILE of explain, where it is only read, and
---week, for the week through DAY; --journal FOLDER and --ledger FILE of serve; --ahead S of serve
-with --control, to refuse taps more than S seconds ahead of this machine's clock, --refused FILE, to
-which refused lines are added, and --greeting TEXT, with which connections begin; --early of run and
-of serve, to close a day that is not over yet; --ledger FILE of audit.
+--week, for the week through DAY; --control C of page, to ask a service, --greeting TEXT, which that
+service has, and --staff FILE, the clerks who may correct; --journal FOLDER and --ledger FILE of
+serve; --ahead S of serve with --control, to refuse taps more than S seconds ahead of this machine's
+clock, --refused FILE, to which refused lines are added, and --greeting TEXT, with which connections
+begin; --early of run and of serve, to close a day that is not over yet; --ledger FILE of audit.
 
 Example: account 7 boards a bus in London on Monday 8 January 2024 at 07:00. The reply names the
 day, counted from 1970-01-01, its price and that of its week, in pence.
@@ -296,8 +310,10 @@ The journal, the fare file and the faults are described in docs/FORMATS.md.";
 
 /// What stands below the help of `page`.
 pub const BELOW_PAGE: &str = "\
-PATH is the FILE of `run --journal FILE`, or the FOLDER of `serve --journal FOLDER`. The port is of
-127.0.0.1 alone. Standard input is not read.
+PATH is the FILE of `run --journal FILE`, or the FOLDER of `serve --journal FOLDER`. The ports are
+of 127.0.0.1 alone. Standard input is not read. With --control C the pages show at /metrics what
+`serve --control C` has counted. With --staff FILE too, the clerks in FILE may correct, and their
+corrections are sent to that port. If the service has a --greeting, the pages need the same.
 
 Statuses:
   0  all right

@@ -1,6 +1,6 @@
 //! The words that the program is started with, and the job that they ask for.
 ghost use Rattle.std.specs.Prelude.{◌≡◌, ℕ, ◌<◌, ◌≤◌, Bool, true, false, codes, drop, List};
-ghost use Rattle.std.specs.Prelude.{IfOk, IfErr, IsSomeAnd, MatchOption, None, Some, is_some, option_map};
+ghost use Rattle.std.specs.Prelude.{IfOk, IfErr, IsSomeAnd, MatchOption, None, Some, is_some, option_copied, option_map};
 ghost use Rattle.std.specs.List.{list_all};
 ghost use Rattle.clap.specs.Walk.{texts};
 ghost use Rattle.clap.specs.Words.{app_of, first_value, found_of, kind_of, one_text};
@@ -10,7 +10,7 @@ ghost use Rattle.pay_words.specs.CommandLine.{HasAudit, HasCheckTexts, HasExplai
 ghost use Rattle.pay_words.specs.CommandLine.{IsFaultOfKind, IsHelpOrMemory, IsVersionOrMemory, flag_text};
 ghost use Rattle.pay_words.specs.CommandLine.{audit_app, check_app, explain_app, farebox_app, page_app, rebuild_app, replay_app, run_app, serve_app, statement_app};
 ghost use Rattle.pay_words.specs.CommandLine.{flag_option, optional_number, required_number, required_option, required_text, required_word};
-ghost use Rattle.pay_words.specs.CommandLine.{required_words, text_option, with_account_and_day, with_against, with_end, with_fares_and_zone, with_ledger, with_numbers};
+ghost use Rattle.pay_words.specs.CommandLine.{required_words, text_option, with_account_and_day, with_against, with_control, with_end, with_fares_and_zone, with_ledger, with_numbers};
 ghost use Rattle.clap.specs.Words.{App, with_rule, with_subcommand};
 ghost use Rattle.clap.specs.ValueTests.{is_unsigned_in};
 ghost use Rattle.clap.specs.Walk.{rule_of};
@@ -22,10 +22,10 @@ ghost use Rattle.pay_words.specs.OneWord.{is_account, is_port};
 ghost use Rattle.pay_words.specs.Audit.{Audit};
 ghost use Rattle.pay_words.specs.Check.{Check, CheckTexts, check_of_texts, has_after_day, has_against};
 ghost use Rattle.pay_words.specs.Explain.{Explain, ExplainTexts, explain_of_texts};
-ghost use Rattle.pay_words.specs.Greeting.{begins_or_ends_with_space, is_greeting, is_printable, is_word_of_staff};
-ghost use Rattle.pay_words.specs.Page.{Page, PageTexts, page_of_texts};
+ghost use Rattle.pay_words.specs.Greeting.{begins_or_ends_with_space, is_greeting, is_printable, is_word_of_staff, may_greet};
+ghost use Rattle.pay_words.specs.Page.{ArePorts, Page, PageTexts, has_control, has_own_port, may_show, page_of_texts};
 ghost use Rattle.pay_words.specs.Run.{Run, has_journal};
-ghost use Rattle.pay_words.specs.Serve.{AreInRange, Serve, ServeTexts, closed_day, has_more, has_no_end, has_ports, leaves_room, may_greet, numbers_of};
+ghost use Rattle.pay_words.specs.Serve.{AreInRange, Serve, ServeTexts, closed_day, has_more, has_no_end, has_ports, leaves_room, numbers_of};
 ghost use Rattle.pay_words.specs.Statement.{Statement, StatementTexts, statement_of_texts};
 ghost use Rattle.pay_words.specs.Asked.{check as check_asked, run as run_asked, without_dashes};
 ghost use Rattle.pay_words.specs.Asked.{audit as audit_asked, explain as explain_asked, page as page_asked, rebuild as rebuild_asked};
@@ -61,7 +61,8 @@ pub enum Job<'a> {
     /// `explain FARES ZONE ACCOUNT DAY --journal PATH` and its options: why an account's day was charged, or its week
     /// through that day.
     Explain(ExplainWords<'a>),
-    /// `page FARES ZONE --journal PATH --port P`: why accounts were charged, as web pages for customer service.
+    /// `page FARES ZONE --journal PATH --port P` and its options: why accounts were charged, as web pages for customer
+    /// service.
     Page(PageWords<'a>),
     /// `replay FARES ZONE FILE..`: whether journals can be taken again, and how many lines they have.
     Replay(ReplayWords<'a>),
@@ -144,7 +145,7 @@ pub struct ExplainWords<'a> {
     pub week: bool,
 }
 
-/// The values of `page FARES ZONE --journal PATH --port P`.
+/// The values of `page FARES ZONE --journal PATH --port P [--control C [--greeting TEXT] [--staff FILE]]`.
 #[derive(Clone, Copy)]
 pub struct PageWords<'a> {
     /// The path of the fare file.
@@ -155,6 +156,13 @@ pub struct PageWords<'a> {
     pub journal: &'a str,
     /// The port of 127.0.0.1 that answers browsers: 1 to 65,535.
     pub port: u16,
+    /// The port of 127.0.0.1 for the staff of a service, where it is asked what it has counted, and corrections are sent:
+    /// 1 to 65,535, another than that of the pages. Without it, nothing is asked of a service.
+    pub control: Option<u16>,
+    /// The line with which connections to that port have to begin, if they do.
+    pub greeting: Option<&'a str>,
+    /// The path of the file of the clerks who may correct. Without it, nobody does.
+    pub staff: Option<&'a str>,
 }
 
 /// The values of `replay FARES ZONE FILE..`.
@@ -299,11 +307,13 @@ impl From<AllocError> for WordsFault {
 /// with `--journal` alone, and `--after` with `--against`. Each is given once, before, between or after the other
 /// values. `--` says that each word after it is a value. Numbers are decimal digits, which may have a plus and zeros
 /// before them; one outside its range is refused as `Usage`, and so are lanes with a port above 65,535. A day is given
-/// by its number or by its date, as `2024-01-08`. With
-/// `--control` a service stays. It then has no `--sessions` and no `--close`, at most 14 lanes, a journal and
-/// a ledger, another port for its staff, and perhaps a greeting: 1 to 128 printable ASCII characters with no space at
-/// either end, and no line by which staff ask something of it. Without `--control` it has both `--sessions` and
-/// `--close`, and no `--ahead`, `--refused` or `--greeting`.
+/// by its number or by its date, as `2024-01-08`.
+///
+/// Of `page`, `--staff` and `--greeting` are taken with `--control` alone, whose port is another than that of the pages.
+/// With `--control` a service stays. It then has no `--sessions` and no `--close`, at most 14 lanes, a
+/// journal and a ledger, another port for its staff, and perhaps a greeting: 1 to 128 printable ASCII characters with
+/// no space at either end, and no line by which staff ask something of it. Without `--control` it has both `--sessions`
+/// and `--close`, and no `--ahead`, `--refused` or `--greeting`.
 pub fn read_words<'a>(alloc: Global, words: &'a [&'a str]) -> Result<Job<'a>, WordsFault>
     ensures job { IfOk result (λ job. asked (texts words.entry.now) ≡ job_asked job) }
     ensures refused { IfErr result (IsFaultOf (asked (texts words.entry.now))) }
@@ -331,7 +341,8 @@ pub fn read_words<'a>(alloc: Global, words: &'a [&'a str]) -> Result<Job<'a>, Wo
     // the values of `explain`.
     ensures explain { ExplainIsTaken (texts words.entry.now) result }
 
-    // Two words with no hyphen before them, a journal and a port, in any order, are the values of `page`.
+    // Two words with no hyphen before them, a journal, a port, and perhaps the port for the staff of a service, with its
+    // greeting and a file of clerks, in any order, are the values of `page`.
     ensures page { PageIsTaken (texts words.entry.now) result }
 
     // Three words or more with no hyphen before them are the values of `replay`.
@@ -520,11 +531,26 @@ fn page_command<'a>(alloc: Global) -> Result<Command<'a>, AllocError>
     let command = Command::new(alloc, "page")
         .about(help::PAGE)
         .after_help(help::BELOW_PAGE);
-    with_two(
+    let shown = with_two(
         with_fares_and_zone(alloc, command)?,
         required_text(alloc, "journal", "PATH", help::JOURNAL_SHOWN),
         number_option(alloc, "port", "P", help::PORT_OF_PAGES, 1, MOST_PORT),
-    )
+    )?;
+    with_control(alloc, shown)
+}
+
+/// A command with the options of `page` by which a service is asked and clerks may correct, after the words that it has.
+fn with_control<'a>(alloc: Global, command: Command<'a>) -> Result<Command<'a>, AllocError>
+    requires { (fields_of command).has_globals ≡ false }
+    ensures app { IfOk result (λ r. app_of r ≡ with_control (app_of command.entry)) }
+    ensures local { IfOk result (λ r. (fields_of r).has_globals ≡ false) }
+{
+    let asking = with_two(
+        command,
+        optional_number(alloc, "control", "C", help::CONTROL_OF_PAGES, 1, MOST_PORT),
+        text_option(alloc, "greeting", "TEXT", help::GREETING_OF_PAGES),
+    )?;
+    asking.arg(text_option(alloc, "staff", "FILE", help::STAFF))
 }
 
 fn replay_command<'a>(alloc: Global) -> Result<Command<'a>, AllocError>
@@ -708,7 +734,7 @@ fn job_of<'a>(alloc: Global, matches: &ArgMatches<'a>) -> Result<Job<'a>, WordsF
     ensures check { (c : Check) → GivesCheck matches.now c → IsAnswer (allowed (check_asked c)) result }
     ensures statement { (s : Statement) → GivesStatement matches.now s → IsAnswer (allowed (statement_asked s)) result }
     ensures explain { (e : Explain) → GivesExplain matches.now e → IsAnswer (allowed (explain_asked e)) result }
-    ensures page { (p : Page) → GivesPage matches.now p → IsJob (page_asked p) result }
+    ensures page { (p : Page) → GivesPage matches.now p → IsAnswer (allowed (page_asked p)) result }
     ensures replay { (fares zone : Text) (files : List Text)
         → GivesReplay matches.now fares zone files → IsJobOrMemory (replay_asked fares zone files) result }
     ensures serve { (s : Serve) → GivesServe matches.now s → IsAnswer (allowed (serve_asked s)) result }
@@ -871,17 +897,18 @@ fn explain_words<'a>(explain: &ArgMatches<'a>) -> Option<ExplainWords<'a>>
 }
 
 fn page_job<'a>(page: &ArgMatches<'a>) -> Result<Job<'a>, WordsFault>
-    ensures { (t : PageTexts) → HasPageTexts (found_of page.now) t → is_port t.port ≡ true
-        → IsJob (page_asked (page_of_texts t)) result }
+    ensures { (t : PageTexts) → HasPageTexts (found_of page.now) t → ArePorts t
+        → IsAnswer (allowed (page_asked (page_of_texts t))) result }
 {
     match page_words(page) {
-        Some(words) => Ok(Job::Page(words)),
+        Some(words) => shown_job(words),
         None => Err(WordsFault::Usage),
     }
 }
 
+/// The values of `page`.
 fn page_words<'a>(page: &ArgMatches<'a>) -> Option<PageWords<'a>>
-    ensures { (t : PageTexts) → HasPageTexts (found_of page.now) t → is_port t.port ≡ true
+    ensures { (t : PageTexts) → HasPageTexts (found_of page.now) t → ArePorts t
         → IsSomeAnd result (λ words. page_job words ≡ page_of_texts t) }
 {
     Some(PageWords {
@@ -889,7 +916,45 @@ fn page_words<'a>(page: &ArgMatches<'a>) -> Option<PageWords<'a>>
         zone: page.get_str("ZONE")?,
         journal: page.get_str("journal")?,
         port: port_of(page, "port")?,
+        control: port_of(page, "control"),
+        greeting: page.get_str("greeting"),
+        staff: page.get_str("staff"),
     })
+}
+
+/// The job of `page`, where its options may stand together.
+fn shown_job(words: PageWords<'_>) -> Result<Job<'_>, WordsFault>
+    ensures { IsAnswer (allowed (page_asked (page_job words.entry))) result }
+{
+    if may_show(&words) {
+        Ok(Job::Page(words))
+    } else {
+        Err(WordsFault::Usage)
+    }
+}
+
+/// Whether the options of `page` may stand together.
+fn may_show(words: &PageWords<'_>) -> bool
+    ensures { result ≡ may_show (page_job words.now) }
+{
+    has_control(words) && has_own_port(words) && may_greet(words.greeting)
+}
+
+/// Whether a greeting and a file of clerks are given with a port for the staff of a service alone.
+fn has_control(words: &PageWords<'_>) -> bool
+    ensures { result ≡ has_control (page_job words.now) }
+{
+    words.control.is_some() || words.greeting.is_none() && words.staff.is_none()
+}
+
+/// Whether that port is another than that of the pages, if there is any.
+fn has_own_port(words: &PageWords<'_>) -> bool
+    ensures { result ≡ has_own_port (page_job words.now) }
+{
+    match words.control {
+        Some(control) => control != words.port,
+        None => true,
+    }
 }
 
 fn replay_job<'a>(alloc: Global, replay: &ArgMatches<'a>) -> Result<Job<'a>, WordsFault>
@@ -973,7 +1038,7 @@ fn staying_job(words: Service<'_>, control: u16) -> Result<Job<'_>, WordsFault>
 {
     match (words.journal, words.ledger) {
         (Some(journal), Some(ledger))
-            if has_no_end(&words) && leaves_room(&words, control) && may_greet(&words) => {
+            if has_no_end(&words) && leaves_room(&words, control) && may_greet(words.greeting) => {
             Ok(Job::Stay(StayWords {
                 fares: words.fares,
                 zone: words.zone,
@@ -1021,11 +1086,11 @@ fn leaves_room(words: &Service<'_>, control: u16) -> bool
     control != words.port && u64::from(words.lanes) <= MOST_STAYING_LANES
 }
 
-/// Whether its greeting is one, where it has any.
-fn may_greet(words: &Service<'_>) -> bool
-    ensures { result ≡ may_greet (service_values words.now) }
+/// Whether a greeting is one, where there is any.
+fn may_greet(greeting: Option<&str>) -> bool
+    ensures { result ≡ may_greet (option_copied greeting.entry) }
 {
-    match words.greeting {
+    match greeting {
         Some(text) => is_greeting(text.as_bytes()),
         None => true,
     }
