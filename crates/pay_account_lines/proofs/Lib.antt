@@ -3,3 +3,5 @@ mod Lines
 mod Marked
 mod OwnAlone
 mod Picked
+mod PickedLines
+mod ReadLines

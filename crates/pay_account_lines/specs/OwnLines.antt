@@ -1,10 +1,10 @@
 -- The lines of one account among those of a journal.
-use Rattle.std.specs.Prelude.{◌≡◌, ℕ, ◌==◌, Bool, false, List, [], ◌∷◌, ◌++◌, filter, codes, Option, Some, None, refl}
+use Rattle.std.specs.Prelude.{◌≡◌, ℕ, ◌+◌, ◌-◌, ◌==◌, Bool, false, if◌then◌else◌, List, [], ◌∷◌, ◌++◌, filter, codes, Option, Some, None, refl}
 use Rattle.std.specs.List.{flat_map}
 use Rattle.pay_wire.specs.Commands.{tap_of, fix_of, named_of, account_day_of}
 use Rattle.pay_wire.specs.declared.command.SpelledCommand.{SpelledCommand}
 use Rattle.pay_wire.specs.declared.command.SpelledCommand.TheVariants.{Tap, Fix}
-use Rattle.pay_session.specs.Requests.{InputLine, input_lines, request_of}
+use Rattle.pay_session.specs.Requests.{InputLine, input_lines, line_requests, request_of}
 use Rattle.pay_session.specs.declared.request.Request.{Request}
 use Rattle.pay_session.specs.declared.request.Request.TheVariants as requests
 
@@ -35,6 +35,11 @@ line_text line = line.text ++ 10 ∷ []
 abbrev pub own_lines : ℕ → List ℕ → List ℕ
 own_lines account text = flat_map line_text (filter (λ (line : InputLine). is_own account (request_of line.text)) (input_lines text))
 
+-- how many requests there are up to the one that is the account's own of this number, with it: all, where it has fewer
+abbrev pub lines_through : ℕ → ℕ → List Request → ℕ
+lines_through account own [] = 0
+lines_through account own (r ∷ rs) = if own == 0 then 0 else 1 + lines_through account (if is_own account r then own - 1 else own) rs
+
 -- ---- worked rows
 
 -- each of the account's lines, taps and corrections, in their order, and not what no newline ends
@@ -50,3 +55,12 @@ lines_of_8 = refl
 question : own_lines 7 (codes "SHOW 7 19730\nTAP 1 1 7 0 2 IN\n") ≡ codes "TAP 1 1 7 0 2 IN\n"
 unfolding request_of tap_of account_day_of
 question = refl
+
+-- the second line of 7 is the fourth of all, and a third one is not there
+second_of_7 : lines_through 7 2 (line_requests (codes "TAP 1 1 8 0 2 IN\nTAP 1 1 7 0 2 IN\nTAP 1 2 8 0 2 IN\nFIX 1 1 7 VOID 1 1\nTAP 1 3 8 0 2 IN\n")) ≡ 4
+unfolding request_of tap_of fix_of named_of
+second_of_7 = refl
+
+no_third_of_7 : lines_through 7 3 (line_requests (codes "TAP 1 1 7 0 2 IN\nTAP 1 2 8 0 2 IN\nFIX 1 1 7 VOID 1 1\n")) ≡ 3
+unfolding request_of tap_of fix_of named_of
+no_third_of_7 = refl
