@@ -1,0 +1,3 @@
+mod Behind
+mod Turns
+mod Whole

@@ -1,0 +1,2 @@
+-- The word of this crate's contracts.
+pub use Rattle.pay_metrics.specs.Metrics.{metrics_text}
