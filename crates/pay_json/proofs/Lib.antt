@@ -1,0 +1,5 @@
+pub mod Letters
+pub mod Adding
+pub mod Items
+pub mod Documents
+pub mod Reading

@@ -1,0 +1,9 @@
+pub mod Escapes
+pub mod Values
+pub mod Places
+pub mod Sums
+pub mod Journeys
+pub mod Corrections
+pub mod Days
+pub mod Weeks
+pub mod Laws
