@@ -1,5 +1,5 @@
--- The page of what came of a correction.
-use Rattle.std.specs.Prelude.{◌≡◌, ℕ, nat_eq, if◌then◌else◌, List, [], ◌++◌, codes, decimal, refl}
+-- The pages of what came of a correction, and of one that would be refused.
+use Rattle.std.specs.Prelude.{◌≡◌, ◌&&◌, not, ℕ, nat_eq, if◌then◌else◌, List, [], ◌++◌, codes, decimal, refl}
 use Rattle.std.specs.List.{starts_with}
 use Rattle.pay_html.specs.Words.{escaped}
 use Rattle.pay_page.specs.Words.{day_link, page_end, page_start}
@@ -11,14 +11,16 @@ use Rattle.pay_fix_page.specs.declared.sent.Outcome.{Outcome}
 use Rattle.pay_fix_page.specs.declared.sent.Outcome.TheVariants.{Kept, KeptBefore, Unknown, Refused}
 use Rattle.pay_fix_page.specs.BackForms.{back_form}
 use Rattle.pay_fix_page.specs.FixLines.{fix_line}
+use Rattle.pay_fix_page.specs.Previews.{back_link, preview_title}
 
--- what came of a correction, by how the reply to it begins: 52 is given where no reply came in time, and the correction may yet be kept
+-- what came of a correction, by how the reply to it begins: 52 is given where no reply came in time, and the correction may yet be kept,
+-- as it may where something else was said
 abbrev pub outcome_of : List ℕ → Outcome
 outcome_of reply =
     if starts_with nat_eq reply (codes "OK ") then Kept
     else if starts_with nat_eq reply (codes "AGAIN ") then KeptBefore
-    else if starts_with nat_eq reply (codes "NO 52 ") then Unknown
-    else Refused
+    else if starts_with nat_eq reply (codes "NO ") && not (starts_with nat_eq reply (codes "NO 52 ")) then Refused
+    else Unknown
 
 -- as a sentence
 abbrev pub sentence_of : Outcome → List ℕ
@@ -57,6 +59,19 @@ done_text it =
     ++ (codes "</p>\n"
     ++ (if_kept (outcome_of it.reply.now) (back_form it.account it.day (back.Fix it.staff it.seq) (codes "Withdraw it..")) ++ page_end)))))
 
+-- the line that is not sent, and the reply that it would get
+unfoldable pub not_sent : FixLine → List ℕ → List ℕ
+not_sent line reply =
+    codes "<p>Not sent: "
+    ++ (fix_line line.staff line.seq line.account line.what.now
+    ++ (codes "</p>\n<p>It would be refused: <code>" ++ (escaped reply ++ codes "</code></p>\n")))
+
+-- the page of a correction that would be refused
+abbrev pub refusal_text : Done → List ℕ
+refusal_text it =
+    page_start (preview_title it.account it.day)
+    ++ (not_sent (record { staff = it.staff; seq = it.seq; account = it.account; what = it.what }) it.reply.now ++ (back_link it.account it.day ++ page_end))
+
 -- ---- worked rows
 
 accepted : outcome_of (codes "OK 19730 340 340") ≡ Kept
@@ -71,5 +86,8 @@ a_conflict = refl
 no_reply_in_time : outcome_of (codes "NO 52 Late") ≡ Unknown
 no_reply_in_time = refl
 
-no_reply_at_all : outcome_of [] ≡ Refused
+no_reply_at_all : outcome_of [] ≡ Unknown
 no_reply_at_all = refl
+
+another_reply : outcome_of (codes "BYE") ≡ Unknown
+another_reply = refl

@@ -1,4 +1,5 @@
-//! The pages on which a clerk corrects an account: what can be corrected, what a correction would change, and what came of it.
+//! The pages on which a clerk corrects an account: what can be corrected, what a correction would change or why it would be refused, and
+//! what came of it.
 #![tactic(auto)]
 
 mod asking_forms;
@@ -12,4 +13,4 @@ mod tap_rows;
 
 pub use choosing::choices_page;
 pub use previews::{Owed, Preview, preview_page};
-pub use sent::{Done, done_page};
+pub use sent::{Done, done_page, refusal_page};

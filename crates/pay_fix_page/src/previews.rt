@@ -75,7 +75,7 @@ struct Head<'a> {
 
 /// The link back to what can be corrected.
 #[derive(Clone, Copy)]
-struct BackLink(AccountFields);
+pub struct BackLink(pub AccountFields);
 
 /// The form that sends the correction.
 #[derive(Clone, Copy)]
@@ -221,7 +221,7 @@ impl fmt::Display for BackLink {
 }
 
 /// The title of the page.
-fn title_of(alloc: Global, account: u32, day: u32) -> Result<String, AllocError>
+pub(crate) fn preview_title(alloc: Global, account: u32, day: u32) -> Result<String, AllocError>
     ensures { IfOk result (λ text. string_bytes text ≡ preview_title account day) }
 {
     let mut text = String::new(alloc);
@@ -237,7 +237,7 @@ pub fn preview_page(alloc: Global, preview: &Preview<'_>) -> Result<String, Allo
     ensures { IfOk result (λ text. string_bytes text ≡ preview_text preview.now) }
 {
     let (account, day, what) = (preview.account, preview.day, preview.what);
-    let title = title_of(alloc, account, day)?;
+    let title = preview_title(alloc, account, day)?;
     let start = PageStart {
         title: title.as_str(),
     };

@@ -1,16 +1,17 @@
-//! The page of what came of a correction.
+//! The pages of what came of a correction, and of one that would be refused.
 ghost use Rattle.std.specs.Prelude.{◌≡◌, IfOk};
 ghost use Rattle.std.specs.String.{string_bytes};
-ghost use Rattle.pay_fix_page.specs.Sent.{done_text, done_title, outcome_of, sentence_of};
+ghost use Rattle.pay_fix_page.specs.Sent.{done_text, done_title, outcome_of, refusal_text, sentence_of};
 
-use crate::back_forms::{BackForm, TakenBack};
+use crate::back_forms::{AccountFields, BackForm, TakenBack};
 use crate::fix_lines::FixLine;
+use crate::previews::{BackLink, preview_title};
 use pay_html::Escaped;
 use pay_page::{DayLink, PageEnd, PageStart};
 use std::alloc::{AllocError, Global};
 use std::fmt;
 
-/// A correction that was sent, and the reply to it.
+/// A correction, and the reply to it.
 #[derive(Clone, Copy)]
 pub struct Done<'a> {
     /// The account.
@@ -34,7 +35,7 @@ enum Outcome {
     Kept,
     /// It had been accepted before.
     KeptBefore,
-    /// No reply came in time: it may be accepted or not.
+    /// No reply came in time, or one that says nothing of it: it may be accepted or not.
     Unknown,
     /// It was refused.
     Refused,
@@ -46,6 +47,13 @@ struct Told<'a> {
     line: FixLine<'a>,
     reply: &'a str,
     outcome: Outcome,
+}
+
+/// The line that is not sent, and the reply that it would get.
+#[derive(Clone, Copy)]
+struct NotSent<'a> {
+    line: FixLine<'a>,
+    reply: &'a str,
 }
 
 /// The form that withdraws a correction, where it was accepted.
@@ -63,10 +71,10 @@ fn outcome_of(reply: &str) -> Outcome
         Outcome::Kept
     } else if reply.starts_with("AGAIN ") {
         Outcome::KeptBefore
-    } else if reply.starts_with("NO 52 ") {
-        Outcome::Unknown
-    } else {
+    } else if reply.starts_with("NO ") && !reply.starts_with("NO 52 ") {
         Outcome::Refused
+    } else {
+        Outcome::Unknown
     }
 }
 
@@ -102,6 +110,23 @@ impl<'a> fmt::Display for Told<'a> {
     }
 }
 
+impl<'a> fmt::Display for NotSent<'a> {
+    ghost use Rattle.std.specs.Prelude.{Some};
+    ghost use Rattle.pay_fix_page.specs.Sent.{not_sent};
+
+    ghost output = { λ it. Some (not_sent it.line it.reply.now) };
+
+    #[tactic(auto, unfolding(crate::specs::Sent::not_sent))]
+    fn fmt<W: fmt::Write>(&self, f: &mut fmt::Formatter<W>) -> fmt::Result {
+        let line = self.line;
+        let reply = Escaped(self.reply);
+        write!(
+            f,
+            "<p>Not sent: {line}</p>\n<p>It would be refused: <code>{reply}</code></p>\n"
+        )
+    }
+}
+
 impl<'a> fmt::Display for Withdrawal<'a> {
     ghost use Rattle.std.specs.Prelude.{Some};
     ghost use Rattle.pay_fix_page.specs.Sent.{withdrawal_if};
@@ -123,6 +148,30 @@ fn title_of(alloc: Global, account: u32) -> Result<String, AllocError>
 {
     let mut text = String::new(alloc);
     write!(text, "What came of a correction of account {account}")?;
+    Ok(text)
+}
+
+/// The page of a correction that is not sent, as it would get this reply, a refusal. An `Err` is out of memory.
+pub fn refusal_page(alloc: Global, refused: &Done<'_>) -> Result<String, AllocError>
+    ensures { IfOk result (λ text. string_bytes text ≡ refusal_text refused.now) }
+{
+    let (account, day) = (refused.account, refused.day);
+    let title = preview_title(alloc, account, day)?;
+    let start = PageStart {
+        title: title.as_str(),
+    };
+    let told = NotSent {
+        line: FixLine {
+            staff: refused.staff,
+            seq: refused.seq,
+            account,
+            what: refused.what,
+        },
+        reply: refused.reply,
+    };
+    let (back, end) = (BackLink(AccountFields { account, day }), PageEnd);
+    let mut text = String::new(alloc);
+    write!(text, "{start}{told}{back}{end}")?;
     Ok(text)
 }
 

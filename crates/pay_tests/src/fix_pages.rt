@@ -3,7 +3,7 @@
 use crate::given::{MONDAY, expect_same, tap_at};
 use pay_day::Moment;
 use pay_fix::FixSet;
-use pay_fix_page::{Done, Owed, Preview, choices_page, done_page, preview_page};
+use pay_fix_page::{Done, Owed, Preview, choices_page, done_page, preview_page, refusal_page};
 use pay_money::Pence;
 use pay_names::Names;
 use pay_rules::{Credit, Fix, Kind, Tap, What};
@@ -88,17 +88,27 @@ fn shows_what_would_change(rt: HostRuntime) {
     expect_same(&rt, page.as_str(), PREVIEW);
 }
 
-/// The page of a correction with this reply ends so.
-fn expect_end<R: Abort + AllocGlobal>(rt: &R, reply: &str, end: &str) {
-    let done = Done {
+/// A correction with this reply.
+fn done(reply: &str) -> Done<'_> {
+    Done {
         account: 7,
         day: MONDAY,
         what: "VOID 1 1",
         staff: 3,
         seq: 6,
         reply,
-    };
-    let page = done_page(rt.alloc(), &done).expect(rt, "memory");
+    }
+}
+
+#[test]
+fn shows_that_it_would_be_refused(rt: HostRuntime) {
+    let page = refusal_page(rt.alloc(), &done("NO 15 <i>")).expect(&rt, "memory");
+    expect_same(&rt, page.as_str(), REFUSAL);
+}
+
+/// The page of a correction with this reply ends so.
+fn expect_end<R: Abort + AllocGlobal>(rt: &R, reply: &str, end: &str) {
+    let page = done_page(rt.alloc(), &done(reply)).expect(rt, "memory");
     let found = page.as_str().strip_prefix(DONE).expect(rt, "its head");
     expect_same(rt, found, end);
 }
@@ -255,6 +265,26 @@ const PREVIEW: &str = "<!DOCTYPE html>
 </html>
 ";
 
+/// The page of a correction that would be refused.
+const REFUSAL: &str = "<!DOCTYPE html>
+<html lang=\"en\">
+<head>
+<meta charset=\"utf-8\">
+<meta name=\"viewport\" content=\"width=device-width, initial-scale=1\">
+<title>What a correction of account 7 would change, day 19730</title>
+<link rel=\"stylesheet\" href=\"/style.css\">
+</head>
+<body>
+<main>
+<h1>What a correction of account 7 would change, day 19730</h1>
+<p>Not sent: <code>FIX 3 6 7 VOID 1 1</code></p>
+<p>It would be refused: <code>NO 15 &lt;i&gt;</code></p>
+<p><a href=\"/correct?account=7&amp;day=19730\">Back, and correct nothing</a></p>
+</main>
+</body>
+</html>
+";
+
 /// How each page of a correction that was sent begins.
 const DONE: &str = "<!DOCTYPE html>
 <html lang=\"en\">
@@ -320,7 +350,7 @@ const LATE: &str = "<p>Reply: <code>NO 52 Late</code></p>
 
 /// Where the reply is none.
 const GARBLED: &str = "<p>Reply: <code>&lt;i&gt;&#39;OK </code></p>
-<p>It was refused, and nothing has changed.</p>
+<p>It may have been kept, or not: look at the day before you correct it again.</p>
 <p><a href=\"/day?account=7&amp;day=19730\">The day</a></p>
 </main>
 </body>
