@@ -1,4 +1,6 @@
 mod Counted
 mod Joins
+mod OwnRequests
+mod OwnTexts
 mod Told
 mod Values

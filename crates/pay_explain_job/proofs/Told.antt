@@ -18,6 +18,7 @@ use Rattle.pay_ledger.specs.declared.fault.LedgerFault.{LedgerFault}
 use Rattle.pay_ledger.specs.declared.fault.LedgerFault.TheVariants.{Store, Refused}
 use Rattle.pay_wire.specs.Words.{AppendsFront}
 use Rattle.pay_wire.specs.declared.refusal.Refusal.{Refusal}
+use Rattle.pay_wire.specs.declared.refusal.Refusal.TheVariants.{BadLine}
 use Rattle.pay_journal.specs.declared.replaying.ReplayFault.{ReplayFault}
 use Rattle.pay_journal.specs.declared.replaying.ReplayFault.TheVariants as replaying
 use Rattle.pay_jobs.specs.Faults.{IsUnread, IsWantOfMemory}
@@ -26,10 +27,12 @@ use Rattle.pay_jobs.specs.declared.fault.Fault.{Fault}
 use Rattle.pay_jobs.specs.declared.fault.Fault.TheVariants.{BadZone, JournalLineOf, Output}
 use Rattle.pay_explain_job.specs.Accounts.{Given, IsAccount, IsTold, told}
 use Rattle.pay_explain_job.specs.declared.accounts.Account.{Account}
-use Rattle.pay_explain_job.specs.Explain.{Query, IsExplained, IsNotExplained, ExplainWritten, ExplainRefused}
+use Rattle.pay_explain_job.specs.Explain.{Query, IsExplained, IsNotExplained, IsUnexplained, ExplainWritten, ExplainRefused}
 use Rattle.pay_explain_job.specs.Numbered.{numbered}
+use Rattle.pay_explain_job.specs.OwnLines.{own_given}
 use Rattle.pay_explain_job.specs.PostedLines.{posted_text}
 use Rattle.pay_explain_job.specs.Postings.{IsExplainedAt, IsWhole, Writes, Stops, Keeps, posted_by}
+use Rattle.pay_explain_job.proofs.OwnTexts.{told_output}
 
 bad_zone : BadZone ≡ Output → ⊥
 bad_zone e = cc
@@ -41,15 +44,17 @@ no_fault_of : (number : ℕ) (why : ReplayFault) → IsFaultOf number why Output
 no_fault_of number (replaying.Line line why) is = bad_line number line why is
 no_fault_of number replaying.Memory is = is
 
+no_text : (given : Given) → IsNotExplained given Output → ⊥
+no_text given (inl (inl (inl memory))) = memory
+no_text given (inl (inl (inr refused))) = refused.2
+no_text given (inl (inr (is, bad))) = bad_zone (sym is)
+no_text given (inr stopped) = no_fault_of _ stopped.2.stops.1.0 stopped.2.stops.1.1
+
 -- where there is no text, the writer did not fail
-pub not_output : (fault : Fault) (given : Given) → IsNotExplained given fault → fault ≡ Output → ⊥
-not_output fault given why is = none (subst (IsNotExplained given) is why)
-  where
-    none : IsNotExplained given Output → ⊥
-    none (inl (inl (inl memory))) = memory
-    none (inl (inl (inr refused))) = refused.2
-    none (inl (inr (is, bad))) = bad_zone (sym is)
-    none (inr stopped) = no_fault_of _ stopped.2.stops.1.0 stopped.2.stops.1.1
+pub not_output : (fault : Fault) (given : Given) (account : ℕ) → IsUnexplained given account fault → fault ≡ Output → ⊥
+not_output fault given account (inl (journal, line, among, told)) is = bad_line journal line BadLine (sym is ∙ told)
+not_output fault given account (inr (own, why, told)) is =
+    no_text (own_given given.fares given.zone account given.journals) (subst (IsNotExplained (own_given given.fares given.zone account given.journals)) (told_output account given.journals own (sym told ∙ is)) why)
 
 pub text_written : {T E : Type 0} (r : Result T E) (given : Given) (query : Query) (text : List ℕ) (held written : Option (List ℕ)) → IsExplained given query text
     → OnOk r (Appends held written text) → OnOk r (ExplainWritten given query held written)

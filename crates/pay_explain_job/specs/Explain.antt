@@ -1,5 +1,5 @@
 -- How the job explain ends, by the texts of its fare file, of its zone and of its journals, and by what is asked for.
-use Rattle.std.specs.Prelude.{◌≡◌, ◌⊎◌, ℕ, Bool, if◌then◌else◌, List, [], ◌++◌, Option, None}
+use Rattle.std.specs.Prelude.{◌≡◌, ◌⊎◌, ℕ, Bool, if◌then◌else◌, List, ◌++◌, Option, None}
 use Rattle.std.specs.Io.KnownBytes.{Appends}
 use Rattle.pay_names.specs.Words.{Named}
 use Rattle.pay_rules.specs.Accepted.{Accepted}
@@ -13,6 +13,7 @@ use Rattle.pay_jobs.specs.declared.fault.Fault.{Fault}
 use Rattle.pay_jobs.specs.declared.fault.Fault.TheVariants.{Output}
 use Rattle.pay_explain_job.specs.Accounts.{Given, IsTold}
 use Rattle.pay_explain_job.specs.Heads.{day_head, week_head}
+use Rattle.pay_explain_job.specs.OwnLines.{AreOwned, IsOtherLine, in_journals, own_given}
 
 -- what it is asked for: a service day of an account, or the week of that day through it
 pub record Query : Type 0 where
@@ -39,9 +40,11 @@ text_of query names currency editions accepted =
 
 -- ---- how the job ends
 
--- this is the text of what the account has accepted by the journals, in the fare file's currency, with the names that it gives to places
-abbrev pub IsExplained : Given → Query → List ℕ → Type 0
-IsExplained given query = IsTold (text_of query) given query.account
+-- Each line of the journals is a tap or a correction, and this is the text of what the account has accepted by its own, in the fare file's
+-- currency, with the names that it gives to places.
+pub record IsExplained (given : Given) (query : Query) (text : List ℕ) : Type 0 where
+  pub owned : AreOwned given.journals
+  pub told : IsTold (text_of query) (own_given given.fares given.zone query.account given.journals) query.account text
 
 -- The job ended by itself: the text was written, and nothing else.
 abbrev pub ExplainWritten : Given → Query → Option (List ℕ) → Option (List ℕ) → Type 0
@@ -51,12 +54,18 @@ ExplainWritten given query held written = (text : List ℕ) × IsExplained given
 abbrev pub StopsWriting : Given → Query → Option (List ℕ) → Option (List ℕ) → Type 0
 StopsWriting given query held written = (text : List ℕ) × IsExplained given query text × AppendsFront held written text
 
--- Why there is no text: the fare file or the zone is not read, or a line of a journal is refused so, where all before it are accepted. The
--- journals are told by their numbers, from 0 on. Want of memory counts as a fare file that is not read.
+-- Why nothing is told by journals: the fare file or the zone is not read, or a line of a journal is refused so, where all before it are
+-- accepted. The journals are told by their numbers, from 0 on. Want of memory counts as a fare file that is not read.
 abbrev pub IsNotExplained : Given → Fault → Type 0
 IsNotExplained given fault =
     AreNotRead given.fares given.zone fault ⊎ ((machine : Machine) × Begins given.fares given.zone None machine × IsStoppedAmong machine.zone machine.editions given.journals 0 fault)
 
+-- Why there is no text of an account: a line of the journals is neither a tap nor a correction, or by the account's own lines nothing is told.
+-- Either is told by its number in its journal.
+abbrev pub IsUnexplained : Given → ℕ → Fault → Type 0
+IsUnexplained given account fault =
+    IsOtherLine given.journals fault ⊎ ((own : Fault) × IsNotExplained (own_given given.fares given.zone account given.journals) own × (fault ≡ in_journals account given.journals own))
+
 -- how the job failed: the writer did, or there is no text, and then nothing was written
 abbrev pub ExplainRefused : Given → Query → Option (List ℕ) → Option (List ℕ) → Fault → Type 0
-ExplainRefused given query held written fault = ((fault ≡ Output) × StopsWriting given query held written) ⊎ (IsNotExplained given fault × (written ≡ held))
+ExplainRefused given query held written fault = ((fault ≡ Output) × StopsWriting given query held written) ⊎ (IsUnexplained given query.account fault × (written ≡ held))

@@ -1,7 +1,10 @@
 pub mod Accounts
+pub mod Corrections
 pub mod Explain
 pub mod Heads
+pub mod Laws
 pub mod Numbered
+pub mod OwnLines
 pub mod Pages
 pub mod PostedLines
 pub mod Postings

@@ -1,5 +1,5 @@
 -- What a ledger has of an account and a week, and how the job explain ends that tells of it too.
-use Rattle.std.specs.Prelude.{◌≡◌, ◌≢◌, ◌⊎◌, ℕ, List, ◌++◌, Option, Some, None, IsTrue, []}
+use Rattle.std.specs.Prelude.{◌≡◌, ◌≢◌, ◌⊎◌, ℕ, List, ◌++◌, Option, Some, None, IsTrue}
 use Rattle.std.specs.Io.KnownBytes.{Appends}
 use Rattle.sqlite.specs.Held.{Held}
 use Rattle.sqlite.specs.Store.{Ghosts}
@@ -18,17 +18,17 @@ use Rattle.pay_jobs.specs.Faults.{IsUnread}
 use Rattle.pay_jobs.specs.declared.fault.Fault.{Fault}
 use Rattle.pay_jobs.specs.declared.fault.Fault.TheVariants.{Output}
 use Rattle.pay_explain_job.specs.Accounts.{Given}
-use Rattle.pay_explain_job.specs.Explain.{Query, IsExplained, IsNotExplained}
+use Rattle.pay_explain_job.specs.Explain.{Query, IsExplained, IsUnexplained}
 use Rattle.pay_explain_job.specs.PostedLines.{posted_text}
 
 -- the text of what all postings have of the account and the week that are asked for, where the account has this version now
 abbrev pub posted_by : Named → Query → ℕ → List Posting → List ℕ
 posted_by names query now all = posted_text names (monday query.day) now (postings_of query.account (monday query.day) all)
 
--- what is told without a ledger, and the version that the account has by the journals
+-- what is told without a ledger, and the version that the account has by its own lines
 pub record IsExplainedAt (given : Given) (query : Query) (now : ℕ) (text : List ℕ) : Type 0 where
   pub explained : IsExplained given query text
-  pub version : now ≡ version explained.accepted
+  pub version : now ≡ version explained.told.accepted
 
 -- ---- how the job ends
 
@@ -58,7 +58,7 @@ module _ {S : Type 0} (store : Ghosts S) (old new : Held S) where
 
   -- why there is no text
   abbrev pub IsUntold : Given → Query → Fault → Type 0
-  IsUntold given query fault = IsNotPosted query fault ⊎ IsNotExplained given fault
+  IsUntold given query fault = IsNotPosted query fault ⊎ IsUnexplained given query.account fault
 
 -- by what a writer holds, where it is known, before and after
 module _ {W : Type 0} (contents : W → Option (List ℕ)) where

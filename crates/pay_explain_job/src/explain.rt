@@ -8,11 +8,12 @@ ghost use Rattle.pay_records.specs.Words.{LeavesAsBefore};
 ghost use Rattle.pay_names.specs.Words.{called_in_text};
 ghost use Rattle.pay_wire.specs.Words.{AppendsFront, IsFlushed, HasFault};
 ghost use Rattle.pay_explain_job.specs.Accounts.{given, told};
-ghost use Rattle.pay_explain_job.specs.Explain.{text_of, IsNotExplained, ExplainWritten, ExplainRefused, query};
+ghost use Rattle.pay_explain_job.specs.Explain.{text_of, IsUnexplained, ExplainWritten, ExplainRefused, query};
 ghost use Rattle.pay_explain_job.specs.PostedLines.{posted_text};
 ghost use Rattle.pay_explain_job.specs.Postings.{IsExplainedAt, IsWhole, IsUntold, Writes, Stops, Keeps};
 
-use crate::accounts::{Account, account_by};
+use crate::accounts::Account;
+use crate::own::own_account;
 use crate::posted::posted_text;
 use crate::texts::text_of;
 use pay_day::monday;
@@ -34,9 +35,10 @@ struct Explanation {
 }
 
 /// Writes why a service day of an account was charged, counted from 1970-01-01, or its week through that day: by what the account has
-/// accepted of journals, which are given as texts and replayed one after the other. The fare file is read before the zone, and both
-/// before the journals. A line that is not accepted is told by the number of its journal, from 0 on; then nothing is written. Places have
-/// the names that the fare file gives them.
+/// accepted of its own lines in journals, which are given as texts. A line that is neither a tap nor a correction is found first; then the
+/// fare file is read, then the zone, and the account's lines are replayed, one journal after the other. A line that is not accepted is told
+/// by its number in its journal, and by that of the journal, from 0 on; then nothing is written. Places have the names that the fare file
+/// gives them.
 pub fn explain_texts<W: KnownWriter>(
     alloc: Global,
     fares: &str,
@@ -134,9 +136,9 @@ fn explained(
     requires { IsDay day }
     ensures explained { IfOk result (λ it. IsExplainedAt (given fares.now zone.now (each vec_items texts.now)) (query account day week) it.version (string_bytes it.text)) }
     ensures operators { IfOk result (λ it. it.operators ≡ (called_in_text fares.now).operators) }
-    ensures fails { IfErr result (IsNotExplained (given fares.now zone.now (each vec_items texts.now))) }
+    ensures fails { IfErr result (IsUnexplained (given fares.now zone.now (each vec_items texts.now)) account) }
 {
-    let accepted = account_by(alloc, fares, zone, texts, account)?;
+    let accepted = own_account(alloc, fares, zone, texts, account)?;
     let text = text_by(alloc, &accepted, account, day, week)?;
     Ok(Explanation {
         text,

@@ -3,12 +3,16 @@
 #![tactic(auto)]
 
 mod accounts;
+mod corrections;
 mod explain;
 mod heads;
+pub mod laws;
+mod own;
 mod pages;
 mod posted;
 mod sets;
 mod texts;
 
+pub use corrections::{choice_by_texts, owed_by_texts};
 pub use explain::{explain_texts, explain_with_ledger};
-pub use pages::page_by_texts;
+pub use pages::{json_by_texts, page_by_texts};

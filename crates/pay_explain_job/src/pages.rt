@@ -4,10 +4,11 @@ ghost use Rattle.std.specs.String.{string_bytes};
 ghost use Rattle.pay_day.specs.Words.{IsDay};
 ghost use Rattle.pay_explain_job.specs.Accounts.{given, told};
 ghost use Rattle.pay_explain_job.specs.Explain.{query, IsNotExplained};
-ghost use Rattle.pay_explain_job.specs.Pages.{page_text, IsPaged};
+ghost use Rattle.pay_explain_job.specs.Pages.{json_text, page_text, IsJson, IsPaged};
 
 use crate::accounts::{Account, account_by};
 use pay_jobs::Fault;
+use pay_json::{day_json, week_json};
 use pay_page::{day_page, week_page};
 use std::alloc::{AllocError, Global};
 
@@ -54,5 +55,59 @@ fn page_of(
         week_page(alloc, editions, taps, fixes, account, day)
     } else {
         day_page(alloc, &called.places, editions, taps, fixes, account, day)
+    }
+}
+
+/// The same for programs, a JSON document.
+pub fn json_by_texts(
+    alloc: Global,
+    fares: &str,
+    zone: &str,
+    texts: &[Vec<u8>],
+    account: u32,
+    day: u32,
+    week: bool,
+) -> Result<String, Fault>
+    requires { IsDay day }
+    ensures json { IfOk result (λ text. IsJson (given fares.now zone.now (each vec_items texts.now)) (query account day week) (string_bytes text)) }
+    ensures fails { IfErr result (IsNotExplained (given fares.now zone.now (each vec_items texts.now))) }
+{
+    let accepted = account_by(alloc, fares, zone, texts, account)?;
+    let document = json_of(alloc, &accepted, account, day, week)?;
+    Ok(document)
+}
+
+/// The same by what the account has accepted.
+fn json_of(
+    alloc: Global,
+    accepted: &Account,
+    account: u32,
+    day: u32,
+    week: bool,
+) -> Result<String, AllocError>
+    requires { IsDay day }
+    ensures { IfOk result (λ text. string_bytes text ≡ told (json_text (query account day week)) accepted.now) }
+{
+    let Account {
+        called,
+        editions,
+        taps,
+        fixes,
+        ..
+    } = accepted;
+    let currency = called.currency.as_str();
+    if week {
+        week_json(alloc, currency, editions, taps, fixes, account, day)
+    } else {
+        day_json(
+            alloc,
+            &called.places,
+            currency,
+            editions,
+            taps,
+            fixes,
+            account,
+            day,
+        )
     }
 }

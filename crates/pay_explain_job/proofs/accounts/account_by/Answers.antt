@@ -1,13 +1,12 @@
-use Rattle.std.proofs.Common.{rules, ◌≡◌, ℕ, ap, ◌∙◌, [], None, inl, inr, refl, sym, subst}
+use Rattle.std.proofs.Common.{rules, ◌≡◌, ap, ◌∙◌, None, inl, inr, refl, sym}
 use Rattle.std.proofs.lemmas.Result.{err_from_is_err_and}
 use Rattle.std.specs.Arc.{arc_value}
 use Rattle.std.specs.Prelude.{map as each, vec_items}
-use Rattle.pay_rules.specs.Accepted.{Accepted}
 use Rattle.pay_rules.specs.Fixes.{number as fix_number}
-use Rattle.pay_rules.specs.SetsParts.{SetsParts, sets}
+use Rattle.pay_rules.specs.SetsParts.{SetsParts}
 use Rattle.pay_rules.specs.State.{accepted_of}
 use Rattle.pay_rules.specs.Taps.{number as tap_number}
-use Rattle.pay_run.specs.Words.{Machine, new_machine, outcome}
+use Rattle.pay_run.specs.Words.{Machine, new_machine}
 use Rattle.pay_shard.specs.Words.{ShardParts, state_now}
 use Rattle.pay_jobs.specs.Replays.{all_requests}
 use Rattle.pay_explain_job.specs.Numbered.{set_of}

@@ -22,4 +22,4 @@ returns-in_err-explanation-clause-fails g c =
 pub returns-in_err-explanation-clause-cause : goal.returns-in_err-explanation-clause-cause
 returns-in_err-explanation-clause-cause g c =
     let p = err_from_is_err_and c.from_residual.result c.from_residual.ensures.1 in
-    rw (p.1, p.2) (λ is. absurd (not_output _ _ c.in_err-explanation.ensures.fails is))
+    rw (p.1, p.2) (λ is. absurd (not_output _ _ _ c.in_err-explanation.ensures.fails is))

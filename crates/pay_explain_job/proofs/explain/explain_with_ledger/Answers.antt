@@ -1,10 +1,10 @@
 use Rattle.std.proofs.Common.{◌∙◌, inl, inr, refl, sym, subst}
 use Rattle.std.proofs.lemmas.Result.{err_from_is_err_and}
 use Rattle.std.specs.Prelude.{map as each, vec_items}
-use Rattle.std.specs.String.{string_bytes}
 use Rattle.pay_explain_job.specs.Accounts.{given}
 use Rattle.pay_explain_job.specs.Explain.{query}
 use Rattle.pay_explain_job.specs.Postings.{IsWhole}
+use Rattle.pay_explain_job.proofs.OwnTexts.{unexplained}
 use Rattle.pay_explain_job.proofs.Told.{not_unread, not_output, whole, whole_written, front_written, writer_failed, wants_none}
 use Rattle.pay_explain_job.proofs.explain.explain_with_ledger.Goals as goal
 
@@ -35,19 +35,19 @@ returns-in_err-explanation-clause-fails g c =
 pub returns-in_err-explanation-clause-stops : goal.returns-in_err-explanation-clause-stops
 returns-in_err-explanation-clause-stops g c =
     let p = err_from_is_err_and c.from_residual-in_err-explanation.result c.from_residual-in_err-explanation.ensures.1 in
-    rw (p.1, p.2) (λ is. absurd (not_output _ _ c.in_err-explanation.ensures.fails is))
+    rw (p.1, p.2) (λ is. absurd (not_output _ _ _ c.in_err-explanation.ensures.fails is))
 
 pub returns-in_err-explanation-clause-cause : goal.returns-in_err-explanation-clause-cause
 returns-in_err-explanation-clause-cause g c =
     let p = err_from_is_err_and c.from_residual-in_err-explanation.result c.from_residual-in_err-explanation.ensures.1 in
-    rw (p.1, p.2) (λ is. absurd (not_output _ _ c.in_err-explanation.ensures.fails is))
+    rw (p.1, p.2) (λ is. absurd (not_output _ _ _ c.in_err-explanation.ensures.fails is))
 
 -- ---- memory is wanting for the text
 
 pub returns-in_err-text-clause-fails : goal.returns-in_err-text-clause-fails
 returns-in_err-text-clause-fails g c =
     let p = err_from_is_err_and c.from_residual-in_err-text.result c.from_residual-in_err-text.ensures.1 in
-    rw p.1 (λ other. (inr (inl (inl (inl p.2))), refl))
+    rw p.1 (λ other. (inr (unexplained (given c.args.fares.now c.args.zone.now (each vec_items c.args.texts.now)) c.args.account _ p.2), refl))
 
 pub returns-in_err-text-clause-stops : goal.returns-in_err-text-clause-stops
 returns-in_err-text-clause-stops g c =
