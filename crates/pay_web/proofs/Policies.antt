@@ -1,5 +1,5 @@
 -- Each answer has the policy.
-use Rattle.std.proofs.Common.{◌≡◌, ◌++◌, ℕ, List, Option, None, Some, Result, Ok, Err, Contains, inl, inr, refl, arith, sym, subst}
+use Rattle.std.proofs.Common.{◌≡◌, ◌++◌, ℕ, Bool, true, List, Option, None, Some, Result, Ok, Err, Contains, inl, inr, refl, arith, sym, subst}
 use Rattle.std.specs.Arc.{arc_value}
 use Rattle.std.specs.String.{string_bytes}
 use Rattle.http.specs.Request.{body_of, head_of}
@@ -8,10 +8,10 @@ use Rattle.http1.specs.Fields.{Header}
 use Rattle.http_server.specs.Response.{IsResponse, fields_of}
 use Rattle.http_server.specs.declared.response.Response.{Response}
 use Rattle.pay_clerks.specs.Words.{ClerkOf}
-use Rattle.pay_web.specs.Answers.{IsAnswer, IsBadMethod, IsHealth, IsShown, IsUnavailable, html, text}
+use Rattle.pay_web.specs.Answers.{IsAnswer, IsBadMethod, IsHealth, IsMetricsOrNot, IsShown, IsShownAs, IsUnavailable, html, json, text}
 use Rattle.pay_web.specs.Fields.{fields, policy}
 use Rattle.pay_web.specs.Gates.{clerk_at}
-use Rattle.pay_web.specs.Posted.{IsAnswered, IsClerkAnswer, IsMade, IsPosterAnswer, IsPreview, IsRefusedWish, IsShownWish, IsStaffAnswer, IsStranger, IsWishAnswer}
+use Rattle.pay_web.specs.Posted.{IsAnswered, IsChoiceOr, IsClerkAnswer, IsMade, IsPosterAnswer, IsPreview, IsRefusedWish, IsShownWish, IsStranger, IsWishAnswer}
 use Rattle.pay_web.specs.declared.asked.Asked.{Asked}
 use Rattle.pay_web.specs.declared.gate.Stranger.{Stranger}
 use Rattle.pay_web.specs.declared.gate.Stranger.TheVariants.{Foreign, OtherType, Nobody}
@@ -46,9 +46,16 @@ bad_method r is = with_more r text _ is.headers
 unavailable : (r : Response) → IsUnavailable r → Has r
 unavailable r is = with_fields r text is.headers
 
+shown_as : (r : Response) (type : List ℕ) (is_page : List ℕ → Type 0) → IsShownAs type is_page r → Has r
+shown_as r type is_page (inl page) = with_fields r type page.2.headers
+shown_as r type is_page (inr none) = unavailable r none
+
 shown : (r : Response) (is_page : List ℕ → Type 0) → IsShown is_page r → Has r
-shown r is_page (inl page) = with_fields r html page.2.headers
-shown r is_page (inr none) = unavailable r none
+shown r = shown_as r html
+
+counted : (r : Response) (found : Option (List ℕ)) → IsMetricsOrNot found r → Has r
+counted r (Some text) is = with_fields r _ is.headers
+counted r None is = with_fields r text is.headers
 
 stranger : (r : Response) (who : Stranger) → IsStranger who r → Has r
 stranger r Foreign is = with_fields r text is.headers
@@ -64,16 +71,20 @@ health : (r : Response) → IsHealth r → Has r
 health r (inl is) = with_fields r text is.headers
 health r (inr is) = unavailable r is
 
-pub answer : {P : Type 0} (is_page : P → Asked → List ℕ → Type 0) (r : Response) (pages : P) (asks : Question) → IsAnswer is_page pages asks r → Has r
-answer is_page r pages question.Form is = with_fields r html is.headers
-answer is_page r pages question.Style is = with_fields r _ is.headers
-answer is_page r pages question.Health is = health r is
-answer is_page r pages (question.Page asked) is = shown r (is_page pages asked) is
-answer is_page r pages (question.Choice asked) is = with_fields r text is.headers
-answer is_page r pages question.BadQuery is = with_fields r html is.headers
-answer is_page r pages question.Unknown is = with_fields r text is.headers
-answer is_page r pages question.BadMethod is = bad_method r is
-answer is_page r pages question.Misdirected is = with_fields r text is.headers
+pub answer : {P : Type 0} (shows : showing.Ghosts P) (corrects : Bool) (r : Response) (pages : P) (asks : Question) → IsAnswer shows corrects pages asks r → Has r
+answer shows corrects r pages question.Form is = with_fields r html is.headers
+answer shows corrects r pages question.Style is = with_fields r _ is.headers
+answer shows corrects r pages question.Health is = health r is
+answer shows corrects r pages (question.Page asked) is = shown r (shows.is_page pages asked) is
+answer shows corrects r pages (question.Json asked) is = shown_as r json (shows.is_json pages asked) is
+answer shows corrects r pages question.Description is = with_fields r json is.headers
+answer shows corrects r pages question.Metrics is = counted r is.0 is.2
+answer shows corrects r pages (question.Choice asked) is = with_fields r text is.headers
+answer shows corrects r pages question.BadQuery is = with_fields r html is.headers
+answer shows corrects r pages question.BadJson is = with_fields r text is.headers
+answer shows corrects r pages question.Unknown is = with_fields r text is.headers
+answer shows corrects r pages question.BadMethod is = bad_method r is
+answer shows corrects r pages question.Misdirected is = with_fields r text is.headers
 
 module _ {P : Type 0} (known : Ghosts P) where
   made : (r : Response) (pages : P) (fix : Asked × _) → IsMade known pages fix r → Has r
@@ -100,18 +111,11 @@ module _ {P : Type 0} (known : Ghosts P) where
   poster r token (Ok who) posts body before after is = clerk r (token, who) posts body before after is
 
 module _ {P : Type 0} (shows : showing.Ghosts P) (known : Ghosts P) where
-  staff_answer : (r : Response) (pages : P) (asks : Question) → IsStaffAnswer shows known pages asks r → Has r
-  staff_answer r pages question.Form is = with_fields r html is.headers
-  staff_answer r pages question.Style is = with_fields r _ is.headers
-  staff_answer r pages question.Health is = health r is
-  staff_answer r pages (question.Page asked) is = shown r (shows.is_page pages asked) is
-  staff_answer r pages (question.Choice asked) is = shown r (known.is_choice pages asked) is
-  staff_answer r pages question.BadQuery is = with_fields r html is.headers
-  staff_answer r pages question.Unknown is = with_fields r text is.headers
-  staff_answer r pages question.BadMethod is = bad_method r is
-  staff_answer r pages question.Misdirected is = with_fields r text is.headers
+  staff_answer : (r : Response) (pages : P) (asks : Question) (choice : Option Asked) → IsChoiceOr shows known choice pages asks r → Has r
+  staff_answer r pages asks (Some asked) is = shown r (known.is_choice pages asked) is
+  staff_answer r pages asks None is = answer shows true r pages asks is
 
   pub answered : (r : Response) (posts : Option Form) (site after : StaffSite P) (request : Request (List ℕ)) → IsAnswered shows known posts site request (r, after) → Has r
   answered r (Some posts) site after request is =
       poster known r (string_bytes site.staff.token) (clerk_at site.hosts (arc_value site.staff.clerks) (head_of request)) posts (body_of request) site.pages after.pages is.answer
-  answered r None site after request is = staff_answer r site.pages _ is.0
+  answered r None site after request is = staff_answer r site.pages _ _ is.0

@@ -24,9 +24,9 @@ use Rattle.pay_web.specs.declared.wish.Form.TheVariants.{Fix}
 use Rattle.pay_web.specs.declared.wish.Wish.TheVariants.{Correction}
 
 -- no answer lacks the policy
-abbrev pub HaveThePolicy : {P : Type 0} → (P → Asked → List ℕ → Type 0) → Type 0
-HaveThePolicy {P} is_page = (before : Site P) (request : Request (List ℕ)) (response : Response) (after : Site P)
-    → Answers is_page before request response after → Contains (fields_of response) policy
+abbrev pub HaveThePolicy : {P : Type 0} → showing.Ghosts P → Type 0
+HaveThePolicy {P} shows = (before : Site P) (request : Request (List ℕ)) (response : Response) (after : Site P)
+    → Answers shows before request response after → Contains (fields_of response) policy
 
 -- ---- where clerks correct accounts
 

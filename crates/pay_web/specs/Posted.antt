@@ -10,10 +10,10 @@ use Rattle.http_server.specs.declared.response.Response.{Response}
 use Rattle.http_uri.specs.Uri.{uri_path}
 use Rattle.pay_clerks.specs.Words.{ClerkOf}
 use Rattle.pay_wire.specs.declared.command.SpelledFix.{SpelledFix}
-use Rattle.pay_web.specs.Answers.{html, text, IsBadMethod, IsForm, IsHealth, IsLine, IsMisdirected, IsShown, IsStyle, IsUnknown}
+use Rattle.pay_web.specs.Answers.{html, text, IsAnswer, IsLine, IsShown}
 use Rattle.pay_web.specs.Fields.{fields}
 use Rattle.pay_web.specs.Gates.{clerk_at}
-use Rattle.pay_web.specs.Questions.{is_for, question_of}
+use Rattle.pay_web.specs.Questions.{choice_of, is_for, question_of}
 use Rattle.pay_web.specs.Wishes.{fix_wish, form_at, IsPreviewWish}
 use Rattle.pay_web.specs.declared.asked.Asked.{Asked}
 use Rattle.pay_web.specs.declared.gate.Stranger.{Stranger}
@@ -23,7 +23,6 @@ use Rattle.pay_web.specs.declared.corrects.Corrects.{Ghosts}
 use Rattle.pay_web.specs.declared.corrects.Viewer.{Viewer}
 use Rattle.pay_web.specs.declared.pages.Pages as showing
 use Rattle.pay_web.specs.declared.question.Question.{Question}
-use Rattle.pay_web.specs.declared.question.Question.TheVariants as question
 use Rattle.pay_web.specs.declared.staff_site.StaffSite.{StaffSite}
 use Rattle.pay_web.specs.declared.wish.BadWish.{BadWish}
 use Rattle.pay_web.specs.declared.wish.BadWish.TheVariants.{BadForm, Stale, OverLimit}
@@ -113,16 +112,13 @@ module _ {P : Type 0} (known : Ghosts P) where
 
 -- By what is known of pages, and of corrections.
 module _ {P : Type 0} (shows : showing.Ghosts P) (known : Ghosts P) where
+  -- what to correct of an account, or else what is asked for
+  abbrev pub IsChoiceOr : Option Asked → P → Question → Response → Type 0
+  IsChoiceOr (Some asked) pages question response = IsShown (known.is_choice pages asked) response
+  IsChoiceOr None pages question response = IsAnswer shows true pages question response
+
   abbrev pub IsStaffAnswer : P → Question → Response → Type 0
-  IsStaffAnswer pages question.Form response = IsForm 200 true response
-  IsStaffAnswer pages question.Style response = IsStyle response
-  IsStaffAnswer pages question.Health response = IsHealth response
-  IsStaffAnswer pages (question.Page asked) response = IsShown (shows.is_page pages asked) response
-  IsStaffAnswer pages (question.Choice asked) response = IsShown (known.is_choice pages asked) response
-  IsStaffAnswer pages question.BadQuery response = IsForm 400 true response
-  IsStaffAnswer pages question.Unknown response = IsUnknown response
-  IsStaffAnswer pages question.BadMethod response = IsBadMethod response
-  IsStaffAnswer pages question.Misdirected response = IsMisdirected response
+  IsStaffAnswer pages question response = IsChoiceOr (choice_of question) pages question response
 
   abbrev pub IsAnswered : Option Form → StaffSite P → Request (List ℕ) → Response × StaffSite P → Type 0
   IsAnswered (Some form) before request after = IsFormAnswer known form before request after

@@ -16,6 +16,7 @@ use Rattle.pay_web.specs.declared.question.Question.TheVariants as question
 -- the page of an account that is asked for is that of one, and of a service day
 abbrev pub IsQuestion : Question → Type 0
 IsQuestion (question.Page asked) = IsAsked asked
+IsQuestion (question.Json asked) = IsAsked asked
 IsQuestion (question.Choice asked) = IsAsked asked
 IsQuestion _ = Unit {0}
 
@@ -39,6 +40,14 @@ page_or_bad None = question.BadQuery
 abbrev pub page_question : Bool → Option (List ℕ) → Question
 page_question week query = page_or_bad (option_and_then (asked_by week) query)
 
+-- the same for programs, or another query
+abbrev pub json_or_bad : Option Asked → Question
+json_or_bad (Some asked) = question.Json asked
+json_or_bad None = question.BadJson
+
+abbrev pub json_question : Bool → Option (List ℕ) → Question
+json_question week query = json_or_bad (option_and_then (asked_by week) query)
+
 -- what to correct of an account, or another query
 abbrev pub choice_or_bad : Option Asked → Question
 choice_or_bad (Some asked) = question.Choice asked
@@ -46,6 +55,11 @@ choice_or_bad None = question.BadQuery
 
 abbrev pub choice_question : Option (List ℕ) → Question
 choice_question query = choice_or_bad (option_and_then (asked_by false) query)
+
+-- the account and the day of what to correct
+abbrev pub choice_of : Question → Option Asked
+choice_of (question.Choice asked) = Some asked
+choice_of _ = None
 
 -- each path asks for one thing
 abbrev pub path_question : Uri → Question
@@ -55,6 +69,10 @@ path_question uri =
     else if bytes_eq (uri_path uri) (codes "/healthz") then question.Health
     else if bytes_eq (uri_path uri) (codes "/day") then page_question false (uri_query uri)
     else if bytes_eq (uri_path uri) (codes "/week") then page_question true (uri_query uri)
+    else if bytes_eq (uri_path uri) (codes "/day.json") then json_question false (uri_query uri)
+    else if bytes_eq (uri_path uri) (codes "/week.json") then json_question true (uri_query uri)
+    else if bytes_eq (uri_path uri) (codes "/openapi.json") then question.Description
+    else if bytes_eq (uri_path uri) (codes "/metrics") then question.Metrics
     else if bytes_eq (uri_path uri) (codes "/correct") then choice_question (uri_query uri)
     else question.Unknown
 

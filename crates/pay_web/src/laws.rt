@@ -6,7 +6,7 @@ use crate::pages::Pages;
 
 /// No answer lacks the policy by which a browser runs no script.
 pub fn answers_have_the_policy<P: Pages>()
-    ensures { HaveThePolicy P.is_page }
+    ensures { HaveThePolicy P.Pages }
 {}
 
 /// Nor does any where clerks correct accounts.

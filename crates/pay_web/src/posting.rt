@@ -131,7 +131,7 @@ fn show_preview<P: Corrects>(
         name: poster.clerk.name(),
         token: poster.token,
     };
-    show(pages.preview(asked, fix, viewer), response)
+    show(HTML, pages.preview(asked, fix, viewer), response)
 }
 
 /// Says why a form asks for nothing.

@@ -1,8 +1,9 @@
 //! What a request asks for.
-ghost use Rattle.std.specs.Prelude.{◌≡◌, option_copied};
+ghost use Rattle.std.specs.Prelude.{◌≡◌, IfSome, option_copied};
 ghost use Rattle.http.specs.Request.{head_of};
 ghost use Rattle.http_uri.specs.Uri.{uri_query};
-ghost use Rattle.pay_web.specs.Questions.{IsQuestion, choice_question, is_for, page_question, path_question, question_of};
+ghost use Rattle.pay_web.specs.Asked.{IsAsked};
+ghost use Rattle.pay_web.specs.Questions.{IsQuestion, choice_of, choice_question, is_for, json_question, page_question, path_question, question_of};
 
 use crate::asked::{Asked, asked_by};
 use crate::hosts::Hosts;
@@ -21,10 +22,18 @@ pub(crate) enum Question {
     Health,
     /// `/day?account=A&day=D` or `/week?account=A&day=D`: a page of an account.
     Page(Asked),
+    /// `/day.json?account=A&day=D` or `/week.json?account=A&day=D`: the same for programs.
+    Json(Asked),
+    /// `/openapi.json`: how programs ask.
+    Description,
+    /// `/metrics`: what a service has counted.
+    Metrics,
     /// `/correct?account=A&day=D`: what to correct of an account.
     Choice(Asked),
-    /// Such a path with another query.
+    /// The path of a page with another query.
     BadQuery,
+    /// A path for programs with another query.
+    BadJson,
     /// Another path.
     Unknown,
     /// Another method than GET or HEAD.
@@ -71,6 +80,10 @@ fn path_question(uri: &Uri) -> Question
         "/healthz" => Question::Health,
         "/day" => page_question(uri, false),
         "/week" => page_question(uri, true),
+        "/day.json" => json_question(uri, false),
+        "/week.json" => json_question(uri, true),
+        "/openapi.json" => Question::Description,
+        "/metrics" => Question::Metrics,
         "/correct" => choice_question(uri),
         _ => Question::Unknown,
     }
@@ -90,6 +103,20 @@ fn page_question(uri: &Uri, week: bool) -> Question
     }
 }
 
+/// What a query asks for at the same for programs.
+fn json_question(uri: &Uri, week: bool) -> Question
+    ensures question { result ≡ json_question week (uri_query uri.now) }
+    ensures in_range { IsQuestion result }
+{
+    match uri.query() {
+        Some(query) => match asked_by(query, week) {
+            Some(asked) => Question::Json(asked),
+            None => Question::BadJson,
+        },
+        None => Question::BadJson,
+    }
+}
+
 /// What a query asks for at the path of what to correct.
 fn choice_question(uri: &Uri) -> Question
     ensures question { result ≡ choice_question (uri_query uri.now) }
@@ -101,5 +128,17 @@ fn choice_question(uri: &Uri) -> Question
             None => Question::BadQuery,
         },
         None => Question::BadQuery,
+    }
+}
+
+/// The account and the day of what to correct, if that is asked for.
+pub(crate) fn choice_of(question: Question) -> Option<Asked>
+    requires { IsQuestion question }
+    ensures choice { result ≡ choice_of question }
+    ensures in_range { IfSome result IsAsked }
+{
+    match question {
+        Question::Choice(asked) => Some(asked),
+        _ => None,
     }
 }

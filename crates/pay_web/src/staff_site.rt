@@ -11,14 +11,12 @@ use crate::gate::clerk_at;
 use crate::hosts::Hosts;
 use crate::pages::Pages;
 use crate::posting::{Poster, answer_fix, answer_preview, refuse_stranger};
-use crate::question::{Question, is_for, question_of};
+use crate::question::{Question, choice_of, is_for, question_of};
 use crate::staff::Staff;
-use crate::telling::{
-    misdirect, refuse_method, show, show_form, show_style, tell_health, tell_unknown,
-};
+use crate::telling::{HTML, answer_question, show};
 use crate::wish::{Form, form_at};
 use bytes::Bytes;
-use http::{Method, Request, StatusCode};
+use http::{Method, Request};
 use http_server::{Response, Service};
 use std::alloc::{AllocError, Global};
 
@@ -55,16 +53,9 @@ impl<P: Pages + Corrects> StaffSite<P> {
         requires blank { IsBlank response.old }
         ensures { OnOk result (IsStaffAnswer P.Pages P.Corrects self.now.pages question response.new) }
     {
-        match question {
-            Question::Form => show_form(self.alloc, true, response, StatusCode::OK),
-            Question::Style => show_style(response),
-            Question::Health => tell_health(&self.pages, response),
-            Question::Page(asked) => show(self.pages.page(asked), response),
-            Question::Choice(asked) => show(self.pages.choice(asked), response),
-            Question::BadQuery => show_form(self.alloc, true, response, StatusCode::BAD_REQUEST),
-            Question::Unknown => tell_unknown(response),
-            Question::BadMethod => refuse_method(response),
-            Question::Misdirected => misdirect(response),
+        match choice_of(question) {
+            Some(asked) => show(HTML, self.pages.choice(asked), response),
+            None => answer_question(self.alloc, true, &self.pages, question, response),
         }
     }
 

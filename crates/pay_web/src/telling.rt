@@ -1,13 +1,17 @@
-//! The answers that stand in one piece.
-ghost use Rattle.std.specs.Prelude.{◌≡◌, OnOk};
+//! How what is asked for is answered.
+ghost use Rattle.std.specs.Prelude.{◌≡◌, IsTrue, OnOk};
+ghost use Rattle.http_header.specs.FieldValue.{is_visible_text};
 ghost use Rattle.http_server.specs.Response.{IsBlank};
-ghost use Rattle.pay_web.specs.Answers.{IsBadMethod, IsForm, IsHealth, IsLine, IsMisdirected, IsPageOrNot, IsStyle, IsUnavailable, IsUnknown};
+ghost use Rattle.pay_web.specs.Questions.{IsQuestion};
+ghost use Rattle.pay_web.specs.Answers.{IsAnswer, IsBadJson, IsBadMethod, IsDescription, IsForm, IsHealth, IsLine, IsMetrics, IsMisdirected, IsPageOrNot, IsStyle, IsUnavailable, IsUnknown};
 
 use crate::fields::{add, answer};
 use crate::pages::{PageFault, Pages};
+use crate::question::Question;
 use bytes::Bytes;
 use http::StatusCode;
 use http_server::Response;
+use pay_json::OPENAPI;
 use pay_page::{STYLE, form_page};
 use std::alloc::{AllocError, Global};
 
@@ -17,8 +21,40 @@ const TEXT: &str = "text/plain; charset=utf-8";
 
 const CSS: &str = "text/css; charset=utf-8";
 
+const JSON: &str = "application/json";
+
+const METRICS: &str = "text/plain; version=0.0.4; charset=utf-8";
+
+/// Answers what a request asks for, where accounts are corrected or not. What can be corrected is shown by whoever corrects.
+pub(crate) fn answer_question<P: Pages>(
+    alloc: Global,
+    corrects: bool,
+    pages: &P,
+    question: Question,
+    response: &mut Response,
+) -> Result<(), AllocError>
+    requires in_range { IsQuestion question }
+    requires blank { IsBlank response.old }
+    ensures { OnOk result (IsAnswer P.Pages corrects pages.now question response.new) }
+{
+    match question {
+        Question::Form => show_form(alloc, corrects, response, StatusCode::OK),
+        Question::Style => show_style(response),
+        Question::Health => tell_health(pages, response),
+        Question::Page(asked) => show(HTML, pages.page(asked), response),
+        Question::Json(asked) => show(JSON, pages.json(asked), response),
+        Question::Description => show_description(response),
+        Question::Metrics => show_metrics(pages, response),
+        Question::Choice(_) | Question::Unknown => tell_unknown(response),
+        Question::BadQuery => show_form(alloc, corrects, response, StatusCode::BAD_REQUEST),
+        Question::BadJson => refuse_query(response),
+        Question::BadMethod => refuse_method(response),
+        Question::Misdirected => misdirect(response),
+    }
+}
+
 /// Shows the form that asks for an account and a day, and what may be done there.
-pub(crate) fn show_form(
+fn show_form(
     alloc: Global,
     corrects: bool,
     response: &mut Response,
@@ -32,7 +68,7 @@ pub(crate) fn show_form(
 }
 
 /// Shows how the pages look.
-pub(crate) fn show_style(response: &mut Response) -> Result<(), AllocError>
+fn show_style(response: &mut Response) -> Result<(), AllocError>
     requires { IsBlank response.old }
     ensures { OnOk result (IsStyle response.new) }
 {
@@ -44,23 +80,54 @@ pub(crate) fn show_style(response: &mut Response) -> Result<(), AllocError>
     )
 }
 
-/// Shows a page, or says that it cannot be had.
+/// Shows how programs ask.
+fn show_description(response: &mut Response) -> Result<(), AllocError>
+    requires { IsBlank response.old }
+    ensures { OnOk result (IsDescription response.new) }
+{
+    answer(
+        response,
+        StatusCode::OK,
+        JSON,
+        Bytes::from_static(OPENAPI.as_bytes()),
+    )
+}
+
+/// Shows a page, a document of this content type, or says that it cannot be had.
 pub(crate) fn show(
+    content_type: &'static str,
     page: Result<String, PageFault>,
     response: &mut Response,
 ) -> Result<(), AllocError>
-    requires { IsBlank response.old }
-    ensures { OnOk result (IsPageOrNot page response.new) }
+    requires visible { IsTrue (is_visible_text content_type.now) }
+    requires blank { IsBlank response.old }
+    ensures { OnOk result (IsPageOrNot content_type.now page response.new) }
 {
     match page {
-        Ok(page) => answer(response, StatusCode::OK, HTML, Bytes::from_string(page)?),
+        Ok(page) => answer(
+            response,
+            StatusCode::OK,
+            content_type,
+            Bytes::from_string(page)?,
+        ),
         Err(PageFault::Unavailable) => tell_unavailable(response),
         Err(PageFault::Memory) => Err(AllocError),
     }
 }
 
+/// Shows what a service has counted, if one is asked.
+fn show_metrics<P: Pages>(pages: &P, response: &mut Response) -> Result<(), AllocError>
+    requires { IsBlank response.old }
+    ensures { OnOk result (IsMetrics P.is_metrics pages.now response.new) }
+{
+    match pages.metrics()? {
+        Some(text) => answer(response, StatusCode::OK, METRICS, Bytes::from_string(text)?),
+        None => tell_unknown(response),
+    }
+}
+
 /// Tells whether pages can be made.
-pub(crate) fn tell_health<P: Pages>(pages: &P, response: &mut Response) -> Result<(), AllocError>
+fn tell_health<P: Pages>(pages: &P, response: &mut Response) -> Result<(), AllocError>
     requires { IsBlank response.old }
     ensures { OnOk result (IsHealth response.new) }
 {
@@ -84,7 +151,7 @@ pub(crate) fn tell(
 }
 
 /// Tells that there is no such page.
-pub(crate) fn tell_unknown(response: &mut Response) -> Result<(), AllocError>
+fn tell_unknown(response: &mut Response) -> Result<(), AllocError>
     requires { IsBlank response.old }
     ensures { OnOk result (IsUnknown response.new) }
 {
@@ -103,8 +170,20 @@ fn tell_unavailable(response: &mut Response) -> Result<(), AllocError>
     )
 }
 
+/// Refuses another query than a program's.
+fn refuse_query(response: &mut Response) -> Result<(), AllocError>
+    requires { IsBlank response.old }
+    ensures { OnOk result (IsBadJson response.new) }
+{
+    tell(
+        response,
+        StatusCode::BAD_REQUEST,
+        "Ask with account=A&day=D, where D is a number or a date.\n",
+    )
+}
+
 /// Refuses another method than those that only read.
-pub(crate) fn refuse_method(response: &mut Response) -> Result<(), AllocError>
+fn refuse_method(response: &mut Response) -> Result<(), AllocError>
     requires { IsBlank response.old }
     ensures { OnOk result (IsBadMethod response.new) }
 {
@@ -117,7 +196,7 @@ pub(crate) fn refuse_method(response: &mut Response) -> Result<(), AllocError>
 }
 
 /// Tells that a request is for another host.
-pub(crate) fn misdirect(response: &mut Response) -> Result<(), AllocError>
+fn misdirect(response: &mut Response) -> Result<(), AllocError>
     requires { IsBlank response.old }
     ensures { OnOk result (IsMisdirected response.new) }
 {
