@@ -1,6 +1,7 @@
 //! What is known of closes into a ledger in a file.
 
 use crate::last_close::{Close, LastClose};
+use crate::named_day::NamedDay;
 use crate::noted::NotedPosting;
 use pay_jobs::{Alter, Fault, LastPosting, Ledger, NotClosed, Watch, is_over, read_zone};
 use pay_log::{Level, Log};
@@ -98,7 +99,8 @@ impl<R: Files<File = File> + Clock + Log + AllocGlobal> CloseWatch<R> {
             Some(last) => made_since(self.newest, last),
             None => 0,
         };
-        let line = format_args!("farebox: closed day {day}: {postings} postings");
+        let named = NamedDay(day);
+        let line = format_args!("farebox: closed {named}: {postings} postings");
         self.rt.say(Level::Information, line);
         let at = Instant::now(&self.rt).ok();
         told.tell(Close { day, postings, at });
@@ -128,9 +130,8 @@ impl<R: Files<File = File> + Clock + Log + AllocGlobal> Watch for CloseWatch<R> 
         if self.early || self.is_over(day) {
             return true;
         }
-        let line = format_args!(
-            "farebox: close of day {day} refused: it is not over (see --early)"
-        );
+        let named = NamedDay(day);
+        let line = format_args!("farebox: close of {named} refused: it is not over (see --early)");
         self.rt.say(Level::Warning, line);
         self.has_failed = true;
         false
@@ -145,16 +146,20 @@ impl<R: Files<File = File> + Clock + Log + AllocGlobal> Watch for CloseWatch<R> 
 
     fn not_closed(&mut self, day: u32, why: &NotClosed) {
         let level = Level::Error;
+        let named = NamedDay(day);
         match why.posted_later() {
-            Some((account, through)) => self.rt.say(
-                level,
-                format_args!(
-                    "farebox: close of day {day} refused: {why}: account {account} was posted through day {through}"
-                ),
-            ),
+            Some((account, through)) => {
+                let later = NamedDay(through);
+                self.rt.say(
+                    level,
+                    format_args!(
+                        "farebox: close of {named} refused: {why}: account {account} was posted through {later}"
+                    ),
+                );
+            }
             None => self.rt.say(
                 level,
-                format_args!("farebox: close of day {day} refused: {why}"),
+                format_args!("farebox: close of {named} refused: {why}"),
             ),
         }
         self.has_failed = true;

@@ -14,6 +14,7 @@ mod lane_files;
 mod last_close;
 mod ledgers;
 mod loads;
+mod named_day;
 mod noted;
 mod reporting_keeper;
 mod run;
