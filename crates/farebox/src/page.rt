@@ -1,9 +1,10 @@
 //! The job `page`.
 
+use pay_clerks::Clerks;
 use pay_files::{fares_text, path_in, print_warnings};
 use pay_jobs::{Fault, FileFault};
-use pay_log::Log;
-use pay_page_job::{Given, serve_pages};
+use pay_log::{Level, Log};
+use pay_page_job::{Given, StaffPort, serve_pages};
 use pay_words::PageWords;
 use std::alloc::AllocError;
 use std::fs;
@@ -35,14 +36,56 @@ where
 {
     let fares = fares_text(&rt, words.fares)?;
     print_warnings(&rt, fares.as_str())?;
+    let (zone, paths) = (text_of(&rt, words.zone)?, paths_at(&rt, words.journal)?);
+    let clerks = match words.staff {
+        Some(path) => {
+            let Some(clerks) = clerks_in(&rt, path) else {
+                return Ok(ExitCode::FAILURE);
+            };
+            Some(clerks)
+        }
+        None => None,
+    };
     let given = Given {
         fares,
-        zone: text_of(&rt, words.zone)?,
-        paths: paths_at(&rt, words.journal)?,
+        zone,
+        paths,
         port: words.port,
+        service: service_of(&rt, words)?,
+        clerks,
     };
     serve_pages(rt, given)?;
     Ok(ExitCode::SUCCESS)
+}
+
+/// Where a service is asked, if it is.
+fn service_of<R: AllocGlobal>(
+    rt: &R,
+    words: &PageWords<'_>,
+) -> Result<Option<StaffPort>, AllocError> {
+    let Some(port) = words.control else {
+        return Ok(None);
+    };
+    let greeting = match words.greeting {
+        Some(greeting) => Some(text_of(rt, greeting)?),
+        None => None,
+    };
+    Ok(Some(StaffPort { port, greeting }))
+}
+
+/// The clerks of the staff file at a path. Why there are none, is said.
+fn clerks_in<R: Files + Log + AllocGlobal>(rt: &R, path: &str) -> Option<Clerks> {
+    let Ok(text) = fs::read_to_string(rt, path) else {
+        rt.say(Level::Error, format_args!("farebox: cannot read staff"));
+        return None;
+    };
+    match Clerks::read(rt.alloc(), text.as_str()) {
+        Ok(clerks) => Some(clerks),
+        Err(fault) => {
+            rt.say(Level::Error, format_args!("farebox: staff file: {fault}"));
+            None
+        }
+    }
 }
 
 fn text_of<R: AllocGlobal>(rt: &R, text: &str) -> Result<String, AllocError> {

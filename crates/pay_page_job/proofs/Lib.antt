@@ -1,1 +1,1 @@
-mod OwnRequests
+mod OnOk

@@ -1,9 +1,8 @@
 -- Journals that are followed, and pages of them.
-use Rattle.std.specs.Prelude.{◌≡◌, ℕ, List, [], ◌++◌, get_or, map, slice_set, take, drop}
-use Rattle.pay_account_lines.specs.Words.{own_lines}
-use Rattle.pay_explain_job.specs.Accounts.{given}
+use Rattle.std.specs.Prelude.{◌≡◌, ℕ, List, [], ◌++◌, get_or, slice_set, take, drop}
 use Rattle.pay_explain_job.specs.Explain.{query}
-use Rattle.pay_explain_job.specs.Pages.{IsPaged}
+use Rattle.pay_explain_job.specs.OwnLines.{own_given}
+use Rattle.pay_explain_job.specs.Pages.{IsJson, IsPaged}
 use Rattle.pay_session.specs.Words.{rest_of}
 use Rattle.pay_web.specs.declared.asked.Asked.{Asked}
 
@@ -15,4 +14,9 @@ pub record IsReadOn (old new : List (List ℕ)) (journal : ℕ) (text : List ℕ
 -- the page of what is asked for, by the account's own lines of some journals
 abbrev pub IsPageOf : List ℕ → List ℕ → Asked → List ℕ → Type 0
 IsPageOf fares zone asked text =
-    (journals : List (List ℕ)) × IsPaged (given fares zone (map (own_lines asked.account) journals)) (query asked.account asked.day asked.week) text
+    (journals : List (List ℕ)) × IsPaged (own_given fares zone asked.account journals) (query asked.account asked.day asked.week) text
+
+-- the same for programs
+abbrev pub IsJsonOf : List ℕ → List ℕ → Asked → List ℕ → Type 0
+IsJsonOf fares zone asked text =
+    (journals : List (List ℕ)) × IsJson (own_given fares zone asked.account journals) (query asked.account asked.day asked.week) text

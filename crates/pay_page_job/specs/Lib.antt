@@ -1,2 +1,3 @@
+pub mod Corrected
+pub mod Counted
 pub mod Followed
-pub mod Laws

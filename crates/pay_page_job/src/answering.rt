@@ -1,19 +1,21 @@
 //! The port, and the threads that answer browsers there.
 
+use crate::control::StaffPort;
 use crate::journals::Journals;
 use crate::patient::{Patient, SILENCE};
-use http_server::{Config, Connection, serve};
+use http_server::{Config, Connection, Service, serve};
+use pay_clerks::Clerks;
 use pay_jobs::{Fault, begin_service};
 use pay_log::{Level, Log};
 use pay_serve::listen_on;
-use pay_web::Site;
+use pay_web::{Site, Staff, StaffSite};
 use std::alloc::{AllocError, Global};
 use std::fs::File;
 use std::hash::RandomState;
 use std::net::{Net, TcpListener, TcpStream};
 use std::random::RandomSource;
 use std::rt::{Clock, Files};
-use std::sync::Wait;
+use std::sync::{Arc, Wait};
 use std::thread::Threads;
 use std::time::Duration;
 use std::{io, thread};
@@ -27,7 +29,10 @@ const PAUSE: u64 = 50;
 /// The most bytes of a head.
 const MOST_HEAD: usize = 8 * 1024;
 
-/// The most bytes of a body. Nothing is asked for by one.
+/// How many bytes are drawn for what only the forms of this program have.
+const TOKEN_BYTES: usize = 16;
+
+/// The most bytes of a body.
 const MOST_BODY: usize = 4 * 1024;
 
 /// What pages are made of, and where they are shown.
@@ -41,6 +46,39 @@ pub struct Given {
     pub paths: Vec<String>,
     /// The port of 127.0.0.1.
     pub port: u16,
+    /// The port for the staff of the service that the journals are of. Without it, nothing is asked of it.
+    pub service: Option<StaffPort>,
+    /// The clerks who may correct accounts. Without them, nobody does.
+    pub clerks: Option<Clerks>,
+}
+
+/// The clerks, and what only the forms of this program have, for each thread.
+#[derive(Drop)]
+struct Shared {
+    clerks: Arc<Clerks>,
+    token: String,
+}
+
+impl Shared {
+    /// With a token that is drawn now.
+    fn new<R: RandomSource>(rt: &R, alloc: Global, clerks: Clerks) -> Result<Shared, Fault> {
+        let mut drawn = [0; TOKEN_BYTES];
+        if rt.fill_bytes(&mut drawn).is_err() {
+            return Err(Fault::CannotListen);
+        }
+        Ok(Shared {
+            clerks: Arc::new(alloc, clerks).map_err(AllocError::from)?,
+            token: hex::encode(alloc, drawn)?,
+        })
+    }
+
+    /// For one thread.
+    fn staff(&self, alloc: Global) -> Result<Staff, AllocError> {
+        Ok(Staff {
+            clerks: Arc::clone(&self.clerks)?,
+            token: String::from_str(alloc, self.token.as_str())?,
+        })
+    }
 }
 
 /// Answers browsers until the program is ended. A fare file or a zone that is refused is a fault before anything else, and so are journals
@@ -64,9 +102,15 @@ where
         zone,
         paths,
         port,
+        service,
+        clerks,
     } = given;
     let _begun = begin_service(rt.alloc(), fares.as_str(), zone.as_str())?;
-    let journals = Journals::new(rt, fares, zone, paths)?;
+    let shared = match clerks {
+        Some(clerks) => Some(Shared::new(&rt, rt.alloc(), clerks)?),
+        None => None,
+    };
+    let journals = Journals::new(rt, fares, zone, paths, service)?;
     if !journals.read_on() {
         return Err(Fault::Journal);
     }
@@ -81,8 +125,18 @@ where
         let Ok(listener) = listener.try_clone() else {
             return Err(Fault::CannotListen);
         };
-        let browsers = Browsers::new(rt, rt.alloc(), journals.again()?, keys, port)?;
-        has_any = answer_beside(&rt, listener, browsers) || has_any;
+        let (alloc, journals) = (rt.alloc(), journals.again()?);
+        let is_begun = match &shared {
+            Some(shared) => {
+                let site = StaffSite::new(alloc, port, shared.staff(alloc)?, journals)?;
+                answer_beside(&rt, listener, Browsers::new(rt, alloc, keys, site))
+            }
+            None => {
+                let site = Site::new(alloc, port, journals)?;
+                answer_beside(&rt, listener, Browsers::new(rt, alloc, keys, site))
+            }
+        };
+        has_any = is_begun || has_any;
     }
     if !has_any {
         return Err(Fault::Refused {
@@ -133,30 +187,23 @@ fn answer_all<A: Answer>(listener: &TcpListener, mut browsers: A) {
     }
 }
 
-/// What answers browsers by the pages of journals.
+/// What answers browsers.
 #[derive(Drop)]
-struct Browsers<R> {
+struct Browsers<R, S> {
     rt: R,
     alloc: Global,
     keys: RandomState,
-    site: Site<Journals<R>>,
+    site: S,
 }
 
-impl<R: Clock + Wait + Log + Copy> Browsers<R> {
-    fn new(
-        rt: R,
-        alloc: Global,
-        journals: Journals<R>,
-        keys: RandomState,
-        port: u16,
-    ) -> Result<Browsers<R>, AllocError> {
-        let site = Site::new(alloc, port, journals)?;
-        Ok(Browsers {
+impl<R: Clock + Drop, S: Service + Drop> Browsers<R, S> {
+    fn new(rt: R, alloc: Global, keys: RandomState, site: S) -> Browsers<R, S> {
+        Browsers {
             rt,
             alloc,
             keys,
             site,
-        })
+        }
     }
 
     /// Answers the requests of a connection.
@@ -174,7 +221,7 @@ impl<R: Clock + Wait + Log + Copy> Browsers<R> {
     }
 }
 
-impl<R: Clock + Wait + Log + Copy> Answer for Browsers<R> {
+impl<R: Clock + Wait + Copy, S: Service + Drop> Answer for Browsers<R, S> {
     fn answer(&mut self, stream: &TcpStream) {
         // Whatever ends a connection early is its peer's.
         let _ = self.serve(stream);

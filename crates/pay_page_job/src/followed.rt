@@ -1,15 +1,18 @@
 //! Journals that are followed.
-ghost use Rattle.std.specs.Prelude.{◌≡◌, ◌<◌, length, map as each, replicate, vec_items, [], IfOk, IfErr, OnErr};
+ghost use Rattle.std.specs.Prelude.{◌≡◌, ◌<◌, ◌++◌, ◌∷◌, length, map as each, replicate, vec_items, [], IfOk, IfErr, OnErr};
 ghost use Rattle.std.specs.String.{string_bytes};
 ghost use Rattle.pay_account_lines.specs.Words.{own_lines, IsRefused};
 ghost use Rattle.pay_day.specs.Words.{IsDay};
 ghost use Rattle.pay_explain_job.specs.Accounts.{given};
+ghost use Rattle.pay_explain_job.specs.Corrections.{IsChoice, IsOwed};
 ghost use Rattle.pay_explain_job.specs.Explain.{query, IsNotExplained};
-ghost use Rattle.pay_explain_job.specs.Pages.{IsPaged};
+ghost use Rattle.pay_explain_job.specs.Pages.{IsJson, IsPaged};
 ghost use Rattle.pay_page_job.specs.Followed.{IsReadOn};
+ghost use Rattle.pay_web.specs.Words.{IsAsked};
 
 use pay_account_lines::{AccountLines, LineFault};
-use pay_explain_job::page_by_texts;
+use pay_explain_job::{choice_by_texts, json_by_texts, owed_by_texts, page_by_texts};
+use pay_fix_page::Owed;
 use pay_jobs::Fault;
 use pay_web::Asked;
 use std::alloc::{AllocError, Global};
@@ -31,6 +34,11 @@ impl Followed {
             journals.push(AccountLines::new(alloc))?;
         }
         Ok(Followed { alloc, journals })
+    }
+
+    /// What memory is taken from.
+    pub fn alloc(&self) -> Global {
+        self.alloc
     }
 
     /// How many journals there are.
@@ -71,6 +79,35 @@ impl Followed {
         )
     }
 
+    /// The same for programs.
+    pub fn json(&self, fares: &str, zone: &str, asked: Asked) -> Result<String, Fault>
+        requires { IsDay asked.day }
+        ensures json { IfOk result (λ text. IsJson (given fares.now zone.now (each (own_lines asked.account) self.now.journals.items)) (query asked.account asked.day asked.week) (string_bytes text)) }
+        ensures fails { IfErr result (IsNotExplained (given fares.now zone.now (each (own_lines asked.account) self.now.journals.items))) }
+    {
+        let Asked { account, day, week } = asked;
+        let texts = self.own_texts(account)?;
+        json_by_texts(
+            self.alloc,
+            fares,
+            zone,
+            texts.as_slice(),
+            account,
+            day,
+            week,
+        )
+    }
+
+    /// Of each journal the lines of an account, and then another text.
+    fn own_texts_and(&self, account: u32, text: &[u8]) -> Result<Vec<Vec<u8>>, AllocError>
+        ensures { IfOk result (λ texts. each vec_items texts.items ≡ each (own_lines account) self.now.journals.items ++ text.now ∷ []) }
+    {
+        let mut texts = self.own_texts(account)?;
+        let more = Vec::from_slice(self.alloc, text)?;
+        texts.push(more)?;
+        Ok(texts)
+    }
+
     /// Of each journal the lines of an account.
     fn own_texts(&self, account: u32) -> Result<Vec<Vec<u8>>, AllocError>
         ensures { IfOk result (λ texts. each vec_items texts.items ≡ each (own_lines account) self.now.journals.items) }
@@ -80,5 +117,44 @@ impl Followed {
             texts.push(self.journals[place].of(account)?)?;
         }
         Ok(texts)
+    }
+
+    /// The page of what can be corrected of an account, likewise.
+    pub fn choice(&self, fares: &str, zone: &str, asked: Asked) -> Result<String, Fault>
+        requires { IsDay asked.day }
+        ensures page { IfOk result (λ text. IsChoice (given fares.now zone.now (each (own_lines asked.account) self.now.journals.items)) asked.account asked.day (string_bytes text)) }
+        ensures fails { IfErr result (IsNotExplained (given fares.now zone.now (each (own_lines asked.account) self.now.journals.items))) }
+    {
+        let Asked { account, day, .. } = asked;
+        let texts = self.own_texts(account)?;
+        choice_by_texts(self.alloc, fares, zone, texts.as_slice(), account, day)
+    }
+
+    /// What is owed of an account's day and its week through that day, by its own lines.
+    pub fn owed(&self, fares: &str, zone: &str, asked: Asked) -> Result<Owed, Fault>
+        requires { IsAsked asked }
+        ensures owed { IfOk result (IsOwed (given fares.now zone.now (each (own_lines asked.account) self.now.journals.items)) asked.account asked.day) }
+        ensures fails { IfErr result (IsNotExplained (given fares.now zone.now (each (own_lines asked.account) self.now.journals.items))) }
+    {
+        let Asked { account, day, .. } = asked;
+        let texts = self.own_texts(account)?;
+        owed_by_texts(self.alloc, fares, zone, texts.as_slice(), account, day)
+    }
+
+    /// The same by these and then a text more.
+    pub fn owed_with(
+        &self,
+        fares: &str,
+        zone: &str,
+        asked: Asked,
+        text: &[u8],
+    ) -> Result<Owed, Fault>
+        requires { IsAsked asked }
+        ensures owed { IfOk result (IsOwed (given fares.now zone.now (each (own_lines asked.account) self.now.journals.items ++ text.now ∷ [])) asked.account asked.day) }
+        ensures fails { IfErr result (IsNotExplained (given fares.now zone.now (each (own_lines asked.account) self.now.journals.items ++ text.now ∷ []))) }
+    {
+        let Asked { account, day, .. } = asked;
+        let texts = self.own_texts_and(account, text)?;
+        owed_by_texts(self.alloc, fares, zone, texts.as_slice(), account, day)
     }
 }

@@ -1,18 +1,26 @@
 //! The journals in files, which are read on again and again, and the pages of what was read.
-ghost use Rattle.std.specs.Prelude.{IfOk};
+ghost use Rattle.std.specs.Prelude.{◌≡◌, Ok, IfOk};
 ghost use Rattle.std.specs.Arc.{arc_value};
 ghost use Rattle.std.specs.String.{string_bytes};
-ghost use Rattle.pay_page_job.specs.Followed.{IsPageOf};
+ghost use Rattle.pay_page_job.specs.Corrected.{IsChoiceOf, IsPreviewPage};
+ghost use Rattle.pay_page_job.specs.Counted.{IsCounted};
+ghost use Rattle.pay_page_job.specs.Followed.{IsJsonOf, IsPageOf};
 ghost use Rattle.pay_web.specs.Words.{IsAsked};
 
+use crate::clock::instant_by_text;
+use crate::control::{AT_ONCE, StaffPort, UNTIL_LATE, ask};
 use crate::followed::Followed;
 use crate::reading::{CHUNK, read_after};
+use crate::shown::{done_by, preview_in};
 use pay_account_lines::LineFault;
 use pay_jobs::Fault;
 use pay_log::{Level, Limiter, Log};
-use pay_web::{Asked, PageFault, Pages};
+use pay_metrics::{DOWN, metrics_of};
+use pay_web::{Asked, Corrects, PageFault, Pages, Viewer};
+use pay_wire::{SpelledCommand, SpelledFix, command_line};
 use std::alloc::{AllocError, Global};
 use std::fs::File;
+use std::net::{Net, TcpStream};
 use std::rt::{Clock, Files};
 use std::sync::{Arc, Mutex, Wait};
 
@@ -43,18 +51,20 @@ enum Unread {
     Memory,
 }
 
-/// What pages are made of: a fare file, a zone and journals.
+/// What pages are made of: a fare file, a zone and journals, and the service that writes them, if it is asked.
 #[derive(Drop)]
 struct Sources {
     fares: String,
     zone: String,
     reading: Mutex<Reading>,
+    service: Option<StaffPort>,
 }
 
 /// The journals that pages are made of, for a thread.
 #[derive(Drop)]
 pub(crate) struct Journals<R> {
     rt: R,
+    alloc: Global,
     faults: Limiter,
     sources: Arc<Sources>,
 }
@@ -169,6 +179,7 @@ impl<R: Files<File = File> + Clock + Wait + Log + AllocGlobal + Copy> Journals<R
         fares: String,
         zone: String,
         paths: Vec<String>,
+        service: Option<StaffPort>,
     ) -> Result<Journals<R>, AllocError> {
         let alloc = rt.alloc();
         let faults = Limiter::new(alloc)?;
@@ -177,10 +188,12 @@ impl<R: Files<File = File> + Clock + Wait + Log + AllocGlobal + Copy> Journals<R
             fares,
             zone,
             reading,
+            service,
         };
         let sources = Arc::new(alloc, sources).map_err(AllocError::from)?;
         Ok(Journals {
             rt,
+            alloc,
             faults,
             sources,
         })
@@ -190,6 +203,7 @@ impl<R: Files<File = File> + Clock + Wait + Log + AllocGlobal + Copy> Journals<R
     pub fn again(&self) -> Result<Journals<R>, AllocError> {
         Ok(Journals {
             rt: self.rt,
+            alloc: self.alloc,
             faults: self.faults.again()?,
             sources: Arc::clone(&self.sources)?,
         })
@@ -226,6 +240,19 @@ impl<R: Clock + Wait + Log + Copy> Journals<R> {
         }
     }
 
+    /// A page, or that there is none: why is said.
+    fn page_or_say(&self, account: u32, page: Result<String, Fault>) -> Result<String, PageFault>
+        ensures { IfOk result (λ text. page ≡ Ok text) }
+    {
+        match page {
+            Ok(page) => Ok(page),
+            Err(fault) => {
+                self.say(account, fault);
+                Err(PageFault::Unavailable)
+            }
+        }
+    }
+
     /// The page of what is asked for, by what was read.
     fn page_now(&self, asked: Asked) -> Result<String, Fault>
         requires { IsAsked asked }
@@ -235,29 +262,184 @@ impl<R: Clock + Wait + Log + Copy> Journals<R> {
         let Sources { fares, zone, .. } = &*self.sources;
         reading.followed.page(fares.as_str(), zone.as_str(), asked)
     }
+
+    /// The same for programs.
+    fn json_now(&self, asked: Asked) -> Result<String, Fault>
+        requires { IsAsked asked }
+        ensures { IfOk result (λ text. IsJsonOf (string_bytes (arc_value self.now.sources).fares) (string_bytes (arc_value self.now.sources).zone) asked (string_bytes text)) }
+    {
+        let reading = self.sources.reading.lock(&self.rt);
+        let Sources { fares, zone, .. } = &*self.sources;
+        reading.followed.json(fares.as_str(), zone.as_str(), asked)
+    }
+
+    /// The page of what can be corrected, by what was read.
+    fn choice_now(&self, asked: Asked) -> Result<String, Fault>
+        requires { IsAsked asked }
+        ensures { IfOk result (λ text. IsChoiceOf (string_bytes (arc_value self.now.sources).fares) (string_bytes (arc_value self.now.sources).zone) asked (string_bytes text)) }
+    {
+        let reading = self.sources.reading.lock(&self.rt);
+        let Sources { fares, zone, .. } = &*self.sources;
+        reading
+            .followed
+            .choice(fares.as_str(), zone.as_str(), asked)
+    }
+
+    /// The page of what a correction would change, by what was read.
+    fn preview_now(
+        &self,
+        asked: Asked,
+        fix: &SpelledFix,
+        viewer: Viewer<'_>,
+    ) -> Result<String, Fault>
+        requires { IsAsked asked }
+        ensures { IfOk result (λ text. IsPreviewPage (string_bytes (arc_value self.now.sources).fares) (string_bytes (arc_value self.now.sources).zone) (asked, fix.now) viewer.entry (string_bytes text)) }
+    {
+        let reading = self.sources.reading.lock(&self.rt);
+        let Sources { fares, zone, .. } = &*self.sources;
+        preview_in(
+            &reading.followed,
+            fares.as_str(),
+            zone.as_str(),
+            asked,
+            fix,
+            &viewer,
+        )
+    }
 }
 
-impl<R: Clock + Wait + Log + Copy> Pages for Journals<R> {
+impl<R: Net<Stream = TcpStream> + Clock + Wait + Log + Copy> Journals<R> {
+    /// Sends a line to the service, and gives its reply. Why there is none, is said.
+    fn reply_to(&self, service: &StaffPort, line: &[u8], seconds: u64) -> Option<String> {
+        match ask(&self.rt, self.alloc, service, line, seconds) {
+            Ok(reply) => Some(reply),
+            Err(error) => {
+                let port = service.port;
+                self.faults.say(
+                    &self.rt,
+                    Level::Error,
+                    format_args!("farebox: no reply from the service at 127.0.0.1:{port}: {error}"),
+                );
+                None
+            }
+        }
+    }
+
+    /// What the service has counted, or that it is down.
+    fn counted_by(&self, service: &StaffPort) -> Result<String, AllocError>
+        ensures { IfOk result (λ text. IsCounted (string_bytes text)) }
+    {
+        if let Some(reply) = self.reply_to(service, b"STATS\n", AT_ONCE) {
+            if let Some(text) = metrics_of(self.alloc, reply.as_str())? {
+                return Ok(text);
+            }
+            let port = service.port;
+            self.faults.say(
+                &self.rt,
+                Level::Error,
+                format_args!(
+                    "farebox: no counts from 127.0.0.1:{port}: another greeting, or no service"
+                ),
+            );
+        }
+        String::from_str(self.alloc, DOWN)
+    }
+}
+
+impl<R: Net<Stream = TcpStream> + Clock + Wait + Log + Copy> Pages for Journals<R> {
     ghost use Rattle.std.specs.Arc.{arc_value};
     ghost use Rattle.std.specs.String.{string_bytes};
-    ghost use Rattle.pay_page_job.specs.Followed.{IsPageOf};
+    ghost use Rattle.pay_page_job.specs.Counted.{AreMetrics};
+    ghost use Rattle.pay_page_job.specs.Followed.{IsJsonOf, IsPageOf};
 
     ghost is_page = { λ it. IsPageOf (string_bytes (arc_value it.sources).fares) (string_bytes (arc_value it.sources).zone) };
+
+    ghost is_json = { λ it. IsJsonOf (string_bytes (arc_value it.sources).fares) (string_bytes (arc_value it.sources).zone) };
+
+    ghost is_metrics = { λ it. AreMetrics (arc_value it.sources).service };
 
     fn page(&self, asked: Asked) -> Result<String, PageFault> {
         if !self.is_ready() {
             return Err(PageFault::Unavailable);
         }
-        match self.page_now(asked) {
-            Ok(page) => Ok(page),
-            Err(fault) => {
-                self.say(asked.account, fault);
-                Err(PageFault::Unavailable)
-            }
+        self.page_or_say(asked.account, self.page_now(asked))
+    }
+
+    fn json(&self, asked: Asked) -> Result<String, PageFault> {
+        if !self.is_ready() {
+            return Err(PageFault::Unavailable);
+        }
+        self.page_or_say(asked.account, self.json_now(asked))
+    }
+
+    fn metrics(&self) -> Result<Option<String>, AllocError> {
+        match &self.sources.service {
+            Some(service) => Ok(Some(self.counted_by(service)?)),
+            None => Ok(None),
         }
     }
 
     fn is_ready(&self) -> bool {
         !self.sources.reading.lock(&self.rt).is_unread
+    }
+}
+
+impl<R: Net<Stream = TcpStream> + Clock + Wait + Log + Copy> Corrects for Journals<R> {
+    ghost use Rattle.std.specs.Prelude.{◌≡◌, IfSome};
+    ghost use Rattle.std.specs.Arc.{arc_value};
+    ghost use Rattle.std.specs.String.{string_bytes};
+    ghost use Rattle.pay_page_job.specs.Corrected.{IsChoiceOf, IsDonePage, IsInstantIn, IsPreviewPage};
+
+    ghost is_choice = { λ it. IsChoiceOf (string_bytes (arc_value it.sources).fares) (string_bytes (arc_value it.sources).zone) };
+
+    ghost is_preview = { λ it. IsPreviewPage (string_bytes (arc_value it.sources).fares) (string_bytes (arc_value it.sources).zone) };
+
+    ghost is_instant = { λ it day second utc. IfSome utc (IsInstantIn (string_bytes (arc_value it.sources).zone) day second) };
+
+    // What is sent is told to the service alone.
+    ghost puts = { λ before _ after. after ≡ before };
+
+    ghost is_done = { λ _. IsDonePage };
+
+    fn choice(&self, asked: Asked) -> Result<String, PageFault> {
+        if !self.is_ready() {
+            return Err(PageFault::Unavailable);
+        }
+        self.page_or_say(asked.account, self.choice_now(asked))
+    }
+
+    fn preview(
+        &self,
+        asked: Asked,
+        fix: &SpelledFix,
+        viewer: Viewer<'_>,
+    ) -> Result<String, PageFault> {
+        if !self.is_ready() {
+            return Err(PageFault::Unavailable);
+        }
+        self.page_or_say(asked.account, self.preview_now(asked, fix, viewer))
+    }
+
+    /// The second of now: a clerk's corrections have different ones, as they are made one after another.
+    fn next_seq(&self) -> u32 {
+        match self.rt.since_1970() {
+            Ok(time) => u32::try_from(time.as_secs()).unwrap_or(0),
+            Err(_) => 0,
+        }
+    }
+
+    fn instant(&self, day: u32, second: u32) -> Option<u64> {
+        instant_by_text(self.sources.zone.as_str(), day, second)
+    }
+
+    fn put(&mut self, asked: Asked, fix: &SpelledFix) -> Result<String, PageFault> {
+        let Some(service) = &self.sources.service else {
+            return Err(PageFault::Unavailable);
+        };
+        let line = command_line(&SpelledCommand::Fix(*fix));
+        match self.reply_to(service, line.as_slice(), UNTIL_LATE) {
+            Some(reply) => Ok(done_by(self.alloc, asked, fix, reply.as_str())?),
+            None => Err(PageFault::Unavailable),
+        }
     }
 }

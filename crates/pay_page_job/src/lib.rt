@@ -3,10 +3,14 @@
 #![tactic(auto)]
 
 mod answering;
+mod clock;
+mod control;
 mod followed;
 mod journals;
-pub mod laws;
 mod patient;
 mod reading;
+mod shown;
+mod what;
 
 pub use answering::{Given, serve_pages};
+pub use control::StaffPort;
