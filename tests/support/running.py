@@ -2,6 +2,7 @@
 
 import atexit
 import contextlib
+import datetime
 import os
 import re
 import resource
@@ -65,11 +66,17 @@ def fault(line, output=b"", status=1):
 
 USAGE = fault("usage", status=2)
 
+
+def dated(day):
+    """How the log calls a service day."""
+    return f"day {day}, {datetime.date(1970, 1, 1) + datetime.timedelta(day)}"
+
+
 # What standard error has of a close into a ledger in a file: that it was refused, or that its last posting could not be
 # noted; and the refusals that only a close has.
 REFUSED = (
-    rb"farebox: close of day \d+ refused: "
-    rb"(?:(42) StaleQuote: account \d+ was posted through day \d+|(4[34567]|90) [A-Z]\w+)\n"
+    rb"farebox: close of day \d+, [-\d]{10} refused: "
+    rb"(?:(42) StaleQuote: account \d+ was posted through day \d+, [-\d]{10}|(4[34567]|90) [A-Z]\w+)\n"
 )
 NOT_NOTED = rb"farebox: cannot note the last posting in \S+\n"
 OF_A_CLOSE = rb"(?m)^NO (4[2-7]) "

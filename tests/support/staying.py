@@ -12,7 +12,7 @@ from support.serving import HOST, ended, free_ports, talk
 
 # What the log has of the ordinary course, but for where a service listens.
 ORDINARY = (
-    rb"farebox: (?:took \d+ lines of journals in \d+\.\d s|closed day \d+: \d+ postings|connection lost: [^\n]*"
+    rb"farebox: (?:took \d+ lines of journals in \d+\.\d s|closed day \d+, [-\d]{10}: \d+ postings|connection lost: [^\n]*"
     rb"|staff stop the service|stopped)\n"
 )
 

@@ -74,7 +74,9 @@ def shortened(text, other):
 
 
 def in_words(end, other):
-    """An end, beside another."""
+    """An end, beside another; or whatever else is compared."""
+    if not (hasattr(end, "left") and hasattr(other, "left")):
+        return repr(end)
     left = "" if end.left is None else f", left {shortened(end.left, other.left)}"
     output, errors = shortened(end.output, other.output), shortened(end.errors, other.errors)
     return f"status {end.status}, output {output}, errors {errors}{left}"

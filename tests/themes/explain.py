@@ -469,7 +469,16 @@ BAD_JOURNALS = {
     ),
     "a question": (["DUE 7 19730"], 1, "50 BadLine"),
     "no line": (["TAP 1 1 7 1704697200 50 BUS", ""], 2, "50 BadLine"),
+    "a line that is too long": (["TAP 1 1 7 1704697200 50 BUS", 129 * "7"], 2, "50 BadLine"),
+    "a place after those of others": (
+        ["TAP 1 1 8 1704697200 51 BUS", "TAP 1 2 7 1704697200 50 BUS", "TAP 1 3 9 1704697200 50 BUS",
+         "FIX 1 1 7 FILL 1704697300 51 BUS", "TAP 1 4 7 1704697200 51 BUS"], 4, "15 UnknownPlace"
+    ),
 }
+# Lines of which none but the second is accepted: an unknown place, a number that is there, and an instant that is too early.
+REFUSED_OF_OTHERS = (
+    "TAP 9 1 8 1704697200 51 BUS", "TAP 9 2 8 1704697200 50 BUS", "TAP 9 2 8 1704697201 50 BUS", "TAP 9 3 77 1 50 BUS"
+)
 
 
 class Journals(Theme):
@@ -505,6 +514,18 @@ class Journals(Theme):
             self.check(
                 f"{name} in a folder", explain(folder, 7, MONDAY), bad_line(number, why, path=f"{folder}/11.lines")
             )
+
+    def test_lines_of_others(self):
+        """Those that are not accepted are passed over, as those that are, wherever they stand."""
+        taps, day, text = DAYS["the Hopper rule"]
+        lines = taps_of(taps)
+        for name, others in (
+            ("before", [*REFUSED_OF_OTHERS, *lines]), ("after", [*lines, *REFUSED_OF_OTHERS]),
+            ("between", [line for pair in zip(REFUSED_OF_OTHERS, lines) for line in pair] + lines),
+        ):
+            path = written(self.folder, "journal", in_lines(others))
+            self.check(f"others' lines {name}", explain(path, 7, day), answers(in_lines(text)))
+            self.check(f"the same lines, replayed: {name}", run(["replay", SAMPLE, LONDON, path]).status, 1)
 
     def test_rests(self):
         """What stands after the last newline of a journal is no line."""

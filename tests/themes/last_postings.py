@@ -8,7 +8,7 @@ import time
 from support.journals import new_folder, with_both
 from support.ledgers import DONE, PAID, copied_ledger, session_over
 from support.running import (
-    A_DAY, MONDAY, RUN, SEVEN, End, answers, bytes_of, fault, heard, in_lines, run, started, written
+    A_DAY, MONDAY, RUN, SEVEN, End, answers, bytes_of, dated, fault, heard, in_lines, run, started, written
 )
 from support.serving import closed, ended, failed, free_ports, serving, talk, words_of
 from support.theme import Theme
@@ -27,7 +27,7 @@ def lacks(account, week, through):
 
 
 def refused(day, why, output):
-    return fault(f"close of day {day} refused: {why}", output)
+    return fault(f"close of {dated(day)} refused: {why}", output)
 
 
 NOT_OVER = "it is not over (see --early)"
@@ -321,7 +321,7 @@ class LastPostings(Theme):
         later = [f"CLOSE {today + 1}", "CLOSE 50000"]
         lines = in_lines([f"CLOSE {today - 1}", *later, "DUE 7 19730"])
         done = f"DONE {today - 1} 0\n".encode()
-        errors = "".join(f"farebox: close of day {day} refused: {NOT_OVER}\n" for day in (today + 1, 50000)).encode()
+        errors = "".join(f"farebox: close of {dated(day)} refused: {NOT_OVER}\n" for day in (today + 1, 50000)).encode()
         self.check(
             "days to come",
             run(words, lines),
@@ -352,7 +352,7 @@ class LastPostings(Theme):
         lines = [BUS, "CLOSE 19731", "CLOSE 19730", "DUE 7 19730"]
         output = b"OK 19730 175 175\nPAY 7 19730 19731 1 175 175 4=175\nDONE 19731 1\n"
         output += b"NO 42 StaleQuote\nDUE 7 19730 19730 1 175 4=175\n"
-        why = "42 StaleQuote: account 7 was posted through day 19731"
+        why = "42 StaleQuote: account 7 was posted through day 19731, 2024-01-09"
         self.check("in memory", run(RUN, in_lines(lines)), answers(output))
         self.check(
             "in a file",
@@ -399,11 +399,11 @@ class LastPostings(Theme):
         written(journals, "all.posted", b"7 19730 19730 1\n")
         with serving(1, 2, 1, more=more) as (ran, port, said):
             talk(port, b"QUIT\n")
-            why = "42 StaleQuote: account 7 was posted through day 19731"
+            why = "42 StaleQuote: account 7 was posted through day 19731, 2024-01-09"
             self.check(
                 "Monday once more",
                 ended(ran, said),
-                failed(port, 1, f"close of day 19730 refused: {why}", b"NO 42 StaleQuote\n"),
+                failed(port, 1, f"close of day 19730, 2024-01-08 refused: {why}", b"NO 42 StaleQuote\n"),
             )
         self.check("what is noted of the next start", answers(bytes_of(noted)), answers(b"7 19730 19731 2 2\n"))
         self.check(
@@ -417,7 +417,7 @@ class LastPostings(Theme):
             self.check(
                 "a day to come",
                 ended(ran, said),
-                failed(port, 1, f"close of day 50000 refused: {NOT_OVER}", b"NO 49 NotOver\n"),
+                failed(port, 1, f"close of day 50000, 2106-11-24 refused: {NOT_OVER}", b"NO 49 NotOver\n"),
             )
         with serving(1, 2, 1, close=50000, more=[*empty, "--early"]) as (ran, port, said):
             talk(port, b"QUIT\n")

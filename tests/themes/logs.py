@@ -9,7 +9,7 @@ import time
 from support.journals import new_folder
 from support.repository import BUS, LONDON
 from support.running import (
-    FARES, MISSING, MONDAY, RUN, TIME_TO_REPLY, USAGE, End, answers, fault, run, written,
+    FARES, MISSING, MONDAY, RUN, TIME_TO_REPLY, USAGE, End, answers, dated, fault, run, written,
 )
 from support.serving import boarding, break_off, connected, ended, paid, talk
 from support.staying import asked, both_listening, line_heard, staying
@@ -46,7 +46,7 @@ class Logs(Theme):
         _, ledger = self.files()
         bad, warned = written(self.folder, "bad.toml", b"="), End(0, b"", b"farebox: warning: no bands\n")
         missing = f"cannot keep refused lines in {MISSING}"
-        early = fault(f"close of day {TO_COME} refused: it is not over (see --early)", b"NO 49 NotOver\n")
+        early = fault(f"close of {dated(TO_COME)} refused: it is not over (see --early)", b"NO 49 NotOver\n")
         with_ledger = [*RUN, "--ledger", ledger]
         service = ["serve", FARES, LONDON, "--port=9", "--control=10", "--journal", new_folder(self.folder, "taps")]
         service += ["--lanes=1", "--shards=1", "--ledger", ledger]
@@ -78,7 +78,7 @@ class Logs(Theme):
                 talk(service.control, b"STOP\n")
                 came = ended(service.ran, b"")
                 self.check(f"{name}, its course", came, answers(b"")._replace(errors=with_prefix(prefix, (
-                    f"closed day {MONDAY}: {made} postings", f"closed day {MONDAY}: 0 postings",
+                    f"closed {dated(MONDAY)}: {made} postings", f"closed {dated(MONDAY)}: 0 postings",
                     "staff stop the service", "stopped",
                 ))))
 

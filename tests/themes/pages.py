@@ -1,83 +1,22 @@
 """The pages of customer service over HTTP: what a browser asks for, and what it is answered, while journals grow."""
 
 import contextlib
-import html
-import http.client
 import os
 import re
 import socket
 import time
-from typing import NamedTuple
 
 from support.journals import new_folder
-from support.pages import shown
+from support.pages import CSS, HTML, TEXT, Answer, asked, cells_of, shown, soon, text_answer
 from support.repository import LONDON, SAMPLE
-from support.running import MISSING, MONDAY, TIME_TO_REPLY, End, fault, heard, run, taps_of, written
+from support.running import MISSING, MONDAY, End, fault, heard, run, taps_of, written
 from support.serving import HOST, boarding, connected, free_ports, talk
 from support.sessions import BUS_DAY, ZONE_DAY
 from support.staying import staying
 from support.theme import Theme
 
-POLICY = "default-src 'none'; style-src 'self'; form-action 'self'; frame-ancestors 'none'; base-uri 'none'"
-HTML, TEXT, CSS = (f"text/{kind}; charset=utf-8" for kind in ("html", "plain", "css"))
 UNAVAILABLE = b"The journals cannot be read. The log of the page says why.\n"
 HOPPER_DAY = [(1704697200, 50, "BUS"), (1704700200, 50, "BUS"), (1704702200, 50, "BUS")]
-
-
-class Answer(NamedTuple):
-    status: int
-    fields: list
-    body: bytes
-
-
-def fields_of(kind, length, *more):
-    """The fields of an answer of this content type, by their names."""
-    return sorted([
-        ("content-security-policy", POLICY),
-        ("x-content-type-options", "nosniff"),
-        ("cross-origin-resource-policy", "same-origin"),
-        ("cross-origin-opener-policy", "same-origin"),
-        ("cache-control", "no-store"),
-        ("referrer-policy", "same-origin"),
-        ("connection", "close"),
-        ("content-type", kind),
-        ("content-length", str(length)),
-        *more,
-    ])
-
-
-def text_answer(status, body, kind=TEXT, *more):
-    return Answer(status, fields_of(kind, len(body), *more), body)
-
-
-def asked(port, target, method="GET", host=None, body=None):
-    """What a request is answered."""
-    peer = http.client.HTTPConnection(HOST, port, timeout=TIME_TO_REPLY)
-    with contextlib.closing(peer):
-        peer.putrequest(method, target, skip_host=True, skip_accept_encoding=True)
-        if host != "":
-            peer.putheader("Host", host or f"{HOST}:{port}")
-        if body is not None:
-            peer.putheader("Content-Length", str(len(body)))
-        peer.endheaders(body)
-        it = peer.getresponse()
-        return Answer(it.status, sorted((name.lower(), value) for name, value in it.getheaders()), it.read())
-
-
-def soon(is_so):
-    """Whether something is so before long: the journals are read again and again."""
-    end = time.monotonic() + TIME_TO_REPLY
-    while time.monotonic() < end:
-        if is_so():
-            return True
-        time.sleep(0.05)
-    return False
-
-
-def cells_of(page):
-    """The texts of the cells of a page's tables, row by row."""
-    rows = re.findall(r"<tr[^>]*>(.*?)</tr>", page.decode(), re.S)
-    return [[html.unescape(re.sub(r"<[^>]*>", "", it)) for it in re.findall(r"<t[hd][^>]*>(.*?)</t[hd]>", row, re.S)] for row in rows]
 
 
 class Pages(Theme):

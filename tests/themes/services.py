@@ -651,7 +651,7 @@ class FullJournals(Theme):
                 )
                 left = texts(boarding(10) + boarding(12) + boarding(14)[:4], boarding(11) + boarding(13))
                 wanted = fault("journal fault", refused)
-                not_posted = b"farebox: close of day 19730 refused: 44 DeskFault\n" if has_ledger else b""
+                not_posted = b"farebox: close of day 19730, 2024-01-08 refused: 44 DeskFault\n" if has_ledger else b""
                 wanted = wanted._replace(errors=listening(port, 1) + full + not_posted + wanted.errors, left=left)
                 self.check(f"how it ends{name}", leaving(journals, ended(ran, said)), wanted)
             with serving(1, 2, 1, more=more if has_ledger else with_new_ledger(journals)) as (ran, port, said):
@@ -702,7 +702,8 @@ class Ledgers(Theme):
             "an earlier day",
             end,
             failed(
-                port, 1, "close of day 19730 refused: 42 StaleQuote: account 7 was posted through day 19731",
+                port, 1,
+                "close of day 19730, 2024-01-08 refused: 42 StaleQuote: account 7 was posted through day 19731, 2024-01-09",
                 b"NO 42 StaleQuote\n",
             ),
         )

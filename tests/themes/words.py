@@ -38,7 +38,7 @@ Commands:
              it has, or its first fault; or compare it with another
   statement  Read taps and corrections from standard input, and print the statement of an account's week as CSV
   explain    Read journals, and say why an account's day or week was charged, in plain words
-  page       Show why accounts were charged, as web pages for customer service
+  page       Show why accounts were charged, as web pages for customer service, and take corrections
   replay     Read journals, and print how many lines and accounts they have, with the first and last
              instant, or the first bad line
   serve      Read taps and corrections from the connections of several lanes. Close a day after so
@@ -67,7 +67,7 @@ FARES ZONE --port P --lanes L --shards N --control C --journal FOLDER --ledger F
   L        how many lanes there are, from 1 to 15; with C, from 1 to 14
   N        how many shards the accounts are spread over, from 1 to 16
   K        how many connections each lane serves, from 1 to 1000; then the service ends
-  C        the port for staff, who close days and end the service
+  C        the port for staff, who close days and end the service; of page, the one that is asked
   FILE     a journal, which run or serve wrote
   PATH     a journal, or a folder of journals, which is only read
   LEDGER   the SQLite file that days were closed into
@@ -75,10 +75,11 @@ FARES ZONE --port P --lanes L --shards N --control C --journal FOLDER --ledger F
 Further options: --journal FILE and --ledger FILE of run, and --sync with --journal; --lint and
 --against OLD of check, where OLD is another fare file, and --after DAY with --against; --journal
 FILE of statement, where it is only read; --ledger FILE of explain, where it is only read, and
---week, for the week through DAY; --journal FOLDER and --ledger FILE of serve; --ahead S of serve
-with --control, to refuse taps more than S seconds ahead of this machine's clock, --refused FILE, to
-which refused lines are added, and --greeting TEXT, with which connections begin; --early of run and
-of serve, to close a day that is not over yet; --ledger FILE of audit.
+--week, for the week through DAY; --control C of page, to ask a service, --greeting TEXT, which that
+service has, and --staff FILE, the clerks who may correct; --journal FOLDER and --ledger FILE of
+serve; --ahead S of serve with --control, to refuse taps more than S seconds ahead of this machine's
+clock, --refused FILE, to which refused lines are added, and --greeting TEXT, with which connections
+begin; --early of run and of serve, to close a day that is not over yet; --ledger FILE of audit.
 """ + RUN_EXAMPLE + STATUSES + RUN_FORMATS
 RUN_HELP = b"""\
 Read taps, corrections and closes from standard input, and reply to each
@@ -195,9 +196,9 @@ is not read.
 The journal, the fare file and the faults are described in docs/FORMATS.md.
 """
 PAGE_HELP = b"""\
-Show why accounts were charged, as web pages for customer service
+Show why accounts were charged, as web pages for customer service, and take corrections
 
-Usage: farebox page --journal <PATH> --port <P> <FARES> <ZONE>
+Usage: farebox page [OPTIONS] --journal <PATH> --port <P> <FARES> <ZONE>
 
 Arguments:
   <FARES>  The fare file, a TOML document
@@ -205,12 +206,18 @@ Arguments:
            (a name such as Europe/London is none)
 
 Options:
-      --journal <PATH>  A journal that has the accounts, or a folder of journals; it is only read
-      --port <P>        The port of 127.0.0.1 that answers browsers, from 1 to 65535
-  -h, --help            Print help
+      --journal <PATH>   A journal that has the accounts, or a folder of journals; it is only read
+      --port <P>         The port of 127.0.0.1 that answers browsers, from 1 to 65535
+      --control <C>      Ask a service: its port for staff, from 1 to 65535, and not P. What it has
+                         counted is shown at /metrics, and corrections are sent to it
+      --greeting <TEXT>  The greeting of that service, if it has one. It needs --control
+      --staff <FILE>     The file of the clerks who may correct. It needs --control
+  -h, --help             Print help
 
-PATH is the FILE of `run --journal FILE`, or the FOLDER of `serve --journal FOLDER`. The port is of
-127.0.0.1 alone. Standard input is not read.
+PATH is the FILE of `run --journal FILE`, or the FOLDER of `serve --journal FOLDER`. The ports are
+of 127.0.0.1 alone. Standard input is not read. With --control C the pages show at /metrics what
+`serve --control C` has counted. With --staff FILE too, the clerks in FILE may correct, and their
+corrections are sent to that port. If the service has a --greeting, the pages need the same.
 """ + STATUSES + b"""
 The journal, the fare file and the faults are described in docs/FORMATS.md.
 """
@@ -433,6 +440,15 @@ REFUSED_WORDS = (
     *(["page", FARES, LONDON, "--journal", MISSING, "--port=8080", more] for more in (
         "more", "--port=8080", "--port=8081", "--journal=a", "--ledger=a", "--early", "--week", "--version",
     )),
+    # A service that is asked: its port, which is another than that of the pages; and with it a greeting, and a file of clerks.
+    *(["page", FARES, LONDON, "--journal", MISSING, "--port=8080", *more] for more in (
+        ["--staff=a"], ["--greeting=a"], ["--greeting=a", "--staff=a"], ["--control=9100", "--staff"], ["--control", "--staff=a"],
+        ["--control=9100", "--greeting"], ["--control=9100", "--greeting", "-a"], ["--control=9100", "--greeting=a", "--greeting=a"],
+        ["--control=9100", "--staff", "-a"], ["--control=9100", "--staff=a", "--control=9101"],
+        ["--control=9100", "--staff=a", "--staff=a"],
+        *([f"--control={port}", "--staff=a"] for port in ("", "0", "8080", "08080", "65536", "-1", "x")),
+    )),
+    [*RUN, "--staff=a"], [*SERVE, "--staff=a"],
     # Of an audit and of the lines of a ledger; and an option of others.
     ["audit"], ["audit", FARES, LONDON], ["audit", FARES, "--journal", MISSING], ["audit", FARES, LONDON, "--journal"],
     ["audit", FARES, LONDON, "--journal", MISSING, "--journal", MISSING],
@@ -638,6 +654,7 @@ class Services(Theme):
 TO_RUN = ["run", MISSING, LONDON]
 TO_STATE = ["statement", MISSING, LONDON, "7", "19730"]
 TO_REPLAY = ["replay", MISSING, LONDON]
+TO_PAGE = ["page", MISSING, LONDON, "--journal", "a", "--port=8080"]
 TO_SERVE = ["serve", MISSING, LONDON, *OPTIONS]
 TO_STAY = [
     "serve", MISSING, LONDON, "--port", "9000", "--lanes", "2", "--shards", "4", "--control", "9100", "--journal", "a",
@@ -689,6 +706,7 @@ REFUSED_FILES = (
     )),
     *([*TO_STAY, *more] for more in (["--refused"], ["--refused", "-a"], ["--refused=a", "--refused", "a"])),
     *([*TO_STAY, f"--greeting={text}"] for text in NO_GREETINGS), [*TO_STAY, "--greeting", "STOP"],
+    *([*TO_PAGE, "--control=9100", f"--greeting={text}"] for text in NO_GREETINGS),
     *([*TO_STAY, *more] for more in (["--greeting"], ["--greeting", "-a"], ["--greeting=a", "--greeting", "a"])),
     [*TO_STAY, "--greeting", "a", "b"], [*TO_STAY, "--greeting", b"\xff"], [*TO_STAY, "--greetings=a"],
     [*TO_SERVE, "--greeting=a"], [*TO_SERVE, "--journal", "a", "--ledger", "b", "--greeting", "c"],
@@ -712,6 +730,10 @@ TAKEN_FILES = (
     [*TO_RUN, "--ledger", "a"], [*TO_RUN, "--ledger=-a"], [*TO_RUN, "--ledger="],
     [*TO_RUN, "--ledger", "a", "--journal", "b", "--sync"],
     ["run", "--sync", MISSING, "--ledger", "b", LONDON, "--journal=a"], [*TO_RUN, "--ledger", "a", "--journal", "a"],
+    TO_PAGE, [*TO_PAGE, "--control", "9100", "--staff", "a"], [*TO_PAGE, "--staff=", "--control=65535"],
+    ["page", "--staff=-a", "--control=+01", *TO_PAGE[1:]], [*TO_PAGE, "--control", "9100"],
+    [*TO_PAGE, "--control=9100", "--greeting", "a b"], [*TO_PAGE, "--greeting=-a", "--staff=a", "--control=9100"],
+    *([*TO_PAGE, "--control=9100", f"--greeting={text}"] for text in GREETINGS),
     [*TO_SERVE, "--journal", "a"], [*TO_SERVE, "--ledger", "a"], TO_STAY, [*TO_STAY, "--early"],
     *([*TO_STAY, *more] for more in (
         ["--ahead", "60"], ["--ahead=0"], ["--early", "--ahead", "86400"], ["--ahead=+086400"],
