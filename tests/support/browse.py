@@ -12,6 +12,7 @@ from selenium import webdriver
 from selenium.webdriver.chrome.service import Service
 from selenium.webdriver.common.action_chains import ActionChains
 from selenium.webdriver.common.keys import Keys
+from selenium.webdriver.support.ui import WebDriverWait
 
 
 def begun():
@@ -53,6 +54,15 @@ def press(browser, *keys):
     it.perform()
 
 
+def leave(browser, act):
+    """Does what leads to a page at another address, and waits until that is there."""
+    before = browser.current_url
+    act()
+    WebDriverWait(browser, 20).until(
+        lambda it: it.current_url != before and it.execute_script("return document.readyState") == "complete"
+    )
+
+
 def focused(browser):
     return browser.switch_to.active_element
 
@@ -73,14 +83,14 @@ def main(address, account, date, folder=None):
         # By the keyboard alone: the account, the three parts of the date as the browser asks for them, and Enter.
         year, month, day = date.split("-")
         press(browser, Keys.TAB, account, Keys.TAB, month, day, year)
-        press(browser, Keys.ENTER)
+        leave(browser, lambda: press(browser, Keys.ENTER))
         came["week"] = shown(browser)
         keep("week")
         for _ in range(40):
             press(browser, Keys.TAB)
             if focused(browser).tag_name == "a" and f"{date}" in focused(browser).text:
                 break
-        press(browser, Keys.ENTER)
+        leave(browser, lambda: press(browser, Keys.ENTER))
         came["day"] = shown(browser)
         keep("day")
         browser.set_window_size(400, 900)

@@ -9,7 +9,7 @@ import json
 import sys
 import time
 
-from browse import begun, press, shown
+from browse import begun, leave, press, shown
 from selenium.webdriver.common.by import By
 from selenium.webdriver.common.keys import Keys
 
@@ -35,7 +35,7 @@ def main(address, account, date, folder=None):
         for name, text in (
             ("choices", "Correct this day"), ("preview", "Take it out.."), ("done", "Correct"), ("drop", "Withdraw it.."),
         ):
-            button(browser, text).click()
+            leave(browser, button(browser, text).click)
             look(name)
             # What was corrected is in the journals by now, and read.
             time.sleep(0.5)
