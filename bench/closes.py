@@ -12,7 +12,7 @@ import time
 from typing import NamedTuple
 
 sys.dont_write_bytecode = True
-from programs import LONDON, PROGRAM, ROOT, build, on_one_core, peak_bytes
+from programs import LONDON, ROOT, asked, on_one_core, peak_bytes
 from oracle import rules
 from oracle.loads import FARES, MONDAY, DAYS, trip_taps
 
@@ -121,15 +121,12 @@ def main():
     words.add_argument("--accounts", type=int, nargs="+", default=[1_000, 10_000])
     words.add_argument("--seed", type=int, default=1)
     words.add_argument("--rounds", type=int, default=5)
-    words.add_argument("--program", help="a program to measure in the place of the built one")
-    words = words.parse_args()
-    if not words.program:
-        build()
+    words = asked(words)
     loads = [load(accounts, words.seed) for accounts in words.accounts]
     took = [[] for _ in loads]
     for _ in range(words.rounds):
         for it, rounds in zip(loads, took):
-            rounds.append(session(words.program or PROGRAM, it))
+            rounds.append(session(words.program, it))
     print(f"{words.rounds} rounds in turn on one core; medians; all replies are those that the rules give\n")
     print(
         f"{'accounts':>8}  {'close':<6} {'time':>11} {'accounts a second':>18} "

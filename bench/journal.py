@@ -11,7 +11,7 @@ import sys
 import time
 
 sys.dont_write_bytecode = True
-from programs import LONDON, PROGRAM, ROOT, build, on_one_core, peak_bytes
+from programs import LONDON, ROOT, asked, on_one_core, peak_bytes
 
 # Monday 2024-01-08, 04:30 in London, and the seconds of a service day.
 MORNING, A_DAY = 1_704_688_200, 86_400
@@ -57,11 +57,8 @@ def main():
     words.add_argument("--boardings", type=int, default=1_000_000)
     words.add_argument("--accounts", type=int, default=60_000)
     words.add_argument("--seed", type=int, default=1)
-    words.add_argument("--program", help="a program to measure in the place of the built one")
-    words = words.parse_args()
-    if not words.program:
-        build()
-    took, peak, held = session(words.program or PROGRAM, lines(words.boardings, words.accounts, words.seed))
+    words = asked(words)
+    took, peak, held = session(words.program, lines(words.boardings, words.accounts, words.seed))
     ranked = sorted(took)
     slowest = max(range(len(took)), key=took.__getitem__)
     print(

@@ -12,7 +12,7 @@ import sys
 import time
 
 sys.dont_write_bytecode = True
-from programs import LONDON, OUT, PROGRAM, ROOT, build, on_one_core
+from programs import LONDON, OUT, ROOT, asked, on_one_core
 from oracle import rules
 from oracle.loads import DAY
 
@@ -107,12 +107,8 @@ def main():
     words.add_argument("--rounds", type=int, default=5)
     words.add_argument("--replays", type=int, default=3, help="rounds of the replays")
     words.add_argument("--seed", type=int, default=1)
-    words.add_argument("--program", help="a program to measure in the place of the built one")
-    words = words.parse_args()
-    os.makedirs(OUT, exist_ok=True)
-    if not words.program:
-        build()
-    program = words.program or PROGRAM
+    words = asked(words)
+    program = words.program
     run = [program, "run", FARES, LONDON]
     print(f"{DAY.title}, four an account, with {DAY.fares}; each session on one core, output to /dev/null, medians")
     kept = measure_sessions(run, words)

@@ -5,14 +5,13 @@ them. See README.md."""
 import argparse
 import contextlib
 import http.client
-import os
 import statistics
 import subprocess
 import sys
 import time
 
 sys.dont_write_bytecode = True
-from programs import LONDON, OUT, PROGRAM, ROOT, build, on_one_core, peak_bytes
+from programs import LONDON, OUT, ROOT, asked, on_one_core, peak_bytes
 from serve import HOST, free_port
 
 FARES = f"{ROOT}/examples/bus.toml"
@@ -84,12 +83,8 @@ def main():
     words.add_argument("--own", type=int, default=500, help="lines of the account that is asked for")
     words.add_argument("--requests", type=int, default=200)
     words.add_argument("--rounds", type=int, default=3)
-    words.add_argument("--program", help="a program to measure in the place of the built one")
-    words = words.parse_args()
-    os.makedirs(OUT, exist_ok=True)
-    if not words.program:
-        build()
-    program = words.program or PROGRAM
+    words = asked(words)
+    program = words.program
     write_journal(words.lines, words.accounts, words.own)
     explain = [program, "explain", FARES, LONDON, str(ACCOUNT), str(LAST), "--journal", JOURNAL, "--week"]
     replay = [program, "replay", FARES, LONDON, JOURNAL]

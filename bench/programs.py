@@ -14,6 +14,18 @@ sys.path.append(f"{os.path.dirname(HERE)}/tests")
 from support.repository import LONDON, PROGRAM, ROOT, build
 
 
+def asked(words):
+    """What a script is asked for by these words, and with `--program` the program that it measures: the built one, brought up
+    to date, where no other is given."""
+    words.add_argument("--program", help="a program to measure in the place of the built one")
+    given = words.parse_args()
+    os.makedirs(OUT, exist_ok=True)
+    if not given.program:
+        build()
+        given.program = PROGRAM
+    return given
+
+
 def on_one_core():
     os.sched_setaffinity(0, {min(os.sched_getaffinity(0))})
 

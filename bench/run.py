@@ -15,7 +15,7 @@ import time
 from typing import NamedTuple
 
 sys.dont_write_bytecode = True
-from programs import HERE, LONDON, OUT, PROGRAM, ROOT, build, on_one_core, peak_bytes
+from programs import HERE, LONDON, OUT, ROOT, asked, on_one_core, peak_bytes
 from oracle import rules
 from oracle.loads import BANDED_WEEK, CAPPED_DAY, CAPPED_WEEK, DAY, FARES, LOADS, QUOTED_WEEK
 
@@ -233,17 +233,13 @@ def main():
         help="of each load; 4 an account in a day, 20 in a week; corrections and quotes come on top",
     )
     words.add_argument("--rounds", type=int, default=7)
-    words.add_argument("--program", help="a program to measure in the place of the built one")
-    words = words.parse_args()
-    os.makedirs(OUT, exist_ok=True)
+    words = asked(words)
     build_plain()
-    if not words.program:
-        build()
     names = LOADS if words.load == "all" else [words.load]
     if QUOTED_WEEK.name in names and CAPPED_WEEK.name not in names:
         # What quotes take is told by the same taps without them.
         names = [CAPPED_WEEK.name, *names]
-    loads = {LOADS[name]: prepare(LOADS[name], words, words.program or PROGRAM) for name in names}
+    loads = {LOADS[name]: prepare(LOADS[name], words, words.program) for name in names}
     took, speeds = time_rounds(loads, words.rounds), {}
     for load, prepared in loads.items():
         print(f"\n{load.name}: {words.rounds} rounds in turn on one core; medians")

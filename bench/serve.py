@@ -16,7 +16,7 @@ import time
 from typing import NamedTuple
 
 sys.dont_write_bytecode = True
-from programs import LONDON, OUT, PROGRAM, ROOT, build
+from programs import LONDON, OUT, ROOT, asked
 from oracle import rules
 from oracle.loads import DAY, MONDAY
 
@@ -215,11 +215,8 @@ def main():
     words.add_argument("--rounds", type=int, default=5)
     words.add_argument("--idle", type=float, default=5, help="for how many seconds nobody speaks to a service")
     words.add_argument("--seed", type=int, default=1)
-    words.add_argument("--program", help="a program to measure in the place of the built one")
-    words = words.parse_args()
-    if not words.program:
-        build()
-    program = words.program or PROGRAM
+    words = asked(words)
+    program = words.program
     lines = [rules.line(it).encode() for it in DAY.commands(words.seed, words.taps)]
     lone = lines[:words.lone]
     programs = {"run, a pipe": lambda lines, work: by_run(program, lines, work)}

@@ -10,7 +10,7 @@ import sys
 import time
 
 sys.dont_write_bytecode = True
-from programs import LONDON, OUT, PROGRAM, ROOT, build, on_one_core, peak_bytes
+from programs import LONDON, OUT, ROOT, asked, on_one_core, peak_bytes
 
 FARES = f"{ROOT}/examples/bus.toml"
 JOURNAL, LEDGER = f"{OUT}/start-journal", f"{OUT}/start-ledger"
@@ -52,12 +52,8 @@ def main():
     words.add_argument("--accounts", type=int, default=100_000)
     words.add_argument("--each", type=int, default=10, help="boardings of each account")
     words.add_argument("--rounds", type=int, default=3)
-    words.add_argument("--program", help="a program to measure in the place of the built one")
-    words = words.parse_args()
-    os.makedirs(OUT, exist_ok=True)
-    if not words.program:
-        build()
-    session = [words.program or PROGRAM, "run", FARES, LONDON, "--journal", JOURNAL]
+    words = asked(words)
+    session = [words.program, "run", FARES, LONDON, "--journal", JOURNAL]
     for path in (LEDGER, f"{LEDGER}-wal", f"{JOURNAL}.fares"):
         if os.path.exists(path):
             os.remove(path)
