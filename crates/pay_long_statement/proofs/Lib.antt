@@ -1,0 +1,3 @@
+mod Added
+pub mod Adding
+mod Charged
