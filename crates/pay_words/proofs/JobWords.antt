@@ -1,6 +1,7 @@
 -- The words of which a job was made.
-use Rattle.std.proofs.Common.{◌≡◌, ◌∙◌, ℕ, Bool, codes, true, false, refl, sym, subst, ap, List, [], ◌∷◌, Option, Some, None, inl, inr, drop, slice_index, true≢false, ◌≢◌}
+use Rattle.std.proofs.Common.{◌≡◌, ◌∙◌, ◌&&◌, ℕ, Bool, codes, true, false, refl, sym, subst, ap, List, [], ◌∷◌, Option, Some, None, inl, inr, drop, slice_index, true≢false, ◌≢◌}
 use Rattle.clap.specs.Walk.{Row, Text, idle}
+use Rattle.clap.proofs.WalkLemmas.{both}
 use Rattle.clap.specs.Kinds.{Kinds}
 use Rattle.clap.specs.ValueTests.{is_unsigned_in}
 use Rattle.std.specs.Prelude.{IfSome, ⊤, is_some}
@@ -16,7 +17,7 @@ use Rattle.pay_words.specs.Asked as words
 use Rattle.pay_words.specs.Options as say
 use Rattle.pay_words.specs.Options.{AreParts, IsOption, Part, Said, Setting, StandApart, all_of, all_said, flag_value, help_wanted, is_flag, not_taken, plain_words, reader_of, values_of, words_of_parts}
 use Rattle.pay_words.specs.Options.{port_option, lanes_option, shards_option, sessions_option, close_option, control_option, ahead_option, refused_option, greeting_option, journal_option, sync_option, ledger_option, early_option}
-use Rattle.pay_words.specs.Options.{lint_option, against_option, after_option, week_option, staff_option}
+use Rattle.pay_words.specs.Options.{lint_option, against_option, after_option, week_option, staff_option, long_option}
 use Rattle.pay_words.specs.Audit.{AreAuditParts, Audit, audit_grammar}
 use Rattle.pay_words.specs.Check.{AreCheckParts, CheckTexts, check_grammar, check_of_texts, may_check}
 use Rattle.pay_words.specs.Explain.{AreExplainParts, ExplainTexts, explain_grammar, explain_of_texts}
@@ -24,7 +25,7 @@ use Rattle.pay_words.specs.Page.{ArePageParts, ArePorts, PageTexts, may_show, pa
 use Rattle.pay_words.specs.Rebuild.{rebuild_grammar}
 use Rattle.pay_words.specs.Run.{AreRunParts, Run, first_given, flags, has_journal, is_given, listed, run_grammar}
 use Rattle.pay_words.specs.Serve.{AreInRange, ArePartsOf, ServeTexts, is_whole, numbers_of, serve_grammar}
-use Rattle.pay_words.specs.Statement.{AreStatementParts, StatementTexts, statement_grammar, statement_of_texts}
+use Rattle.pay_words.specs.Statement.{AreStatementParts, StatementTexts, has_lines, may_state, shows_postings, statement_grammar, statement_of_texts}
 use Rattle.pay_words.proofs.OptionEnds.{under_reads}
 use Rattle.pay_words.proofs.OptionRules.{flag_given}
 use Rattle.pay_words.proofs.OptionsTaken.{AreTaken, Fits, Once, no_values, not_both, parts_taken}
@@ -175,17 +176,31 @@ after_statement rest = go (all_said statement_grammar rest) (Level statement_sha
   where
     made : (parts : List Part) (had : List Row) → Says statement_grammar (codes "statement") statement_rules statement_built statement_apart (all_of parts) (without_dashes rest)
         → ((k : Setting) → Under had k (values_of k parts)) → (vs : List Text) → plain_words parts ≡ vs → Places statement_grammar.places vs had
-        → AreWordsOf (statement_of vs (values_of journal_option parts)) (codes "statement" ∷ rest)
+        → AreWordsOf (statement_of vs (values_of journal_option parts) (values_of ledger_option parts) (values_of long_option parts)) (codes "statement" ∷ rest)
     made parts had s under [] is h = tt
     made parts had s under (a ∷ []) is h = tt
     made parts had s under (a ∷ b ∷ []) is h = tt
     made parts had s under (a ∷ b ∷ n ∷ []) is h = tt
     made parts had s under (a ∷ b ∷ n ∷ d ∷ e ∷ more) is h = tt
     made parts had s under (a ∷ b ∷ n ∷ d ∷ []) is h = (
-      record { fares = a; zone = b; account = n; day = d; journal = first_given (values_of journal_option parts) },
+      record {
+        fares = a;
+        zone = b;
+        account = n;
+        day = d;
+        journal = first_given (values_of journal_option parts);
+        ledger = first_given (values_of ledger_option parts);
+        long = is_given (values_of long_option parts);
+      },
       parts,
       ap (λ (l : List Text). codes "statement" ∷ l) s.0,
-      (s.1, is, under_listed had journal_option (values_of journal_option parts) (under journal_option)),
+      (
+        s.1,
+        is,
+        under_listed had journal_option (values_of journal_option parts) (under journal_option),
+        under_listed had ledger_option (values_of ledger_option parts) (under ledger_option),
+        under_flags had long_option refl (values_of long_option parts) (under long_option),
+      ),
       h.2.2.1,
       refl,
     )
@@ -238,7 +253,7 @@ after_page rest = go (all_said page_grammar rest) (Level page_shape [] (stand []
   where
     made : (parts : List Part) (had : List Row) → Says page_grammar (codes "page") page_rules page_built page_apart (all_of parts) (without_dashes rest)
         → ((k : Setting) → Under had k (values_of k parts)) → (vs js ps : List Text) → plain_words parts ≡ vs → values_of journal_option parts ≡ js → values_of port_option parts ≡ ps
-        → AreWordsOf (page_of vs js ps (values_of control_option parts) (values_of greeting_option parts) (values_of staff_option parts)) (codes "page" ∷ rest)
+        → AreWordsOf (page_of vs js ps (values_of control_option parts) (values_of greeting_option parts) (values_of staff_option parts) (values_of ledger_option parts)) (codes "page" ∷ rest)
     made parts had s under [] js ps is j p = tt
     made parts had s under (a ∷ []) js ps is j p = tt
     made parts had s under (a ∷ b ∷ c ∷ more) js ps is j p = tt
@@ -255,6 +270,7 @@ after_page rest = go (all_said page_grammar rest) (Level page_shape [] (stand []
         control = first_given (values_of control_option parts);
         greeting = first_given (values_of greeting_option parts);
         staff = first_given (values_of staff_option parts);
+        ledger = first_given (values_of ledger_option parts);
       },
       parts,
       ap (λ (l : List Text). codes "page" ∷ l) s.0,
@@ -266,6 +282,7 @@ after_page rest = go (all_said page_grammar rest) (Level page_shape [] (stand []
         under_listed had control_option (values_of control_option parts) (under control_option),
         under_listed had greeting_option (values_of greeting_option parts) (under greeting_option),
         under_listed had staff_option (values_of staff_option parts) (under staff_option),
+        under_listed had ledger_option (values_of ledger_option parts) (under ledger_option),
       ),
       (
         under_fits had port_option (values_of port_option parts) n p (under port_option),
@@ -443,9 +460,9 @@ allowed_too (check c) ws h = go (may_check c) refl
     go : (fits : Bool) → may_check c ≡ fits → AreWordsOf (allowed (check c)) ws
     go true is = rw is h
     go false is = rw is tt
-allowed_too (statement s) ws h = go (is_some s.day) refl
+allowed_too (statement s) ws h = go (may_state s) refl
   where
-    go : (fits : Bool) → is_some s.day ≡ fits → AreWordsOf (allowed (statement s)) ws
+    go : (fits : Bool) → may_state s ≡ fits → AreWordsOf (allowed (statement s)) ws
     go true is = rw is h
     go false is = rw is tt
 allowed_too (explain e) ws h = go (is_some e.day) refl
@@ -535,6 +552,7 @@ module _ (r : Run) (parts : List Part) (are : AreRunParts r parts) where
   run_once after_option = none_of_run after_option (λ e. cc)
   run_once week_option = none_of_run week_option (λ e. cc)
   run_once staff_option = none_of_run staff_option (λ e. cc)
+  run_once long_option = none_of_run long_option (λ e. cc)
 
   run_taken : slice_index r.fares 0 ≢ 45 → slice_index r.zone 0 ≢ 45 → AreTaken run_grammar parts
   run_taken f z = record {
@@ -588,6 +606,7 @@ module _ (t : CheckTexts) (parts : List Part) (are : AreCheckParts t parts) wher
   check_once after_option = subst (Once after_option) (sym are.4) (once_listed after_option t.after (λ v. refl))
   check_once week_option = none_of_check week_option (λ e. cc)
   check_once staff_option = none_of_check staff_option (λ e. cc)
+  check_once long_option = none_of_check long_option (λ e. cc)
 
   check_taken : slice_index t.fares 0 ≢ 45 → AreTaken check_grammar parts
   check_taken f = record {
@@ -621,13 +640,14 @@ module _ (t : StatementTexts) (parts : List Part) (are : AreStatementParts t par
   statement_once greeting_option = none_of_statement greeting_option (λ e. cc)
   statement_once journal_option = subst (Once journal_option) (sym are.2) (once_listed journal_option t.journal (λ v. refl))
   statement_once sync_option = none_of_statement sync_option (λ e. cc)
-  statement_once ledger_option = none_of_statement ledger_option (λ e. cc)
+  statement_once ledger_option = subst (Once ledger_option) (sym are.3) (once_listed ledger_option t.ledger (λ v. refl))
   statement_once early_option = none_of_statement early_option (λ e. cc)
   statement_once lint_option = none_of_statement lint_option (λ e. cc)
   statement_once against_option = none_of_statement against_option (λ e. cc)
   statement_once after_option = none_of_statement after_option (λ e. cc)
   statement_once week_option = none_of_statement week_option (λ e. cc)
   statement_once staff_option = none_of_statement staff_option (λ e. cc)
+  statement_once long_option = subst (Once long_option) (sym are.4) (once_flags long_option refl t.long)
 
   statement_taken : slice_index t.fares 0 ≢ 45 → slice_index t.zone 0 ≢ 45 → is_account t.account ≡ true → is_some (day_of_text t.day) ≡ true → AreTaken statement_grammar parts
   statement_taken f z n d = record {
@@ -638,13 +658,17 @@ module _ (t : StatementTexts) (parts : List Part) (are : AreStatementParts t par
   }
 
   statement_is : statement_asked (all_of parts) ≡ statement (statement_of_texts t)
-  statement_is = rw (are.1, are.2, first_listed t.journal) refl
+  statement_is = rw (are.1, are.2, are.3, are.4, first_listed t.journal, first_listed t.ledger, given_flags t.long) refl
+
+-- a day that is asked for is one
+has_day : (t : StatementTexts) → may_state (statement_of_texts t) ≡ true → is_some (day_of_text t.day) ≡ true
+has_day t states = (both (is_some (day_of_text t.day)) (has_lines (statement_of_texts t) && shows_postings (statement_of_texts t)) states).0
 
 pub asks_statement : (ws : List Text) (name : Text) (t : StatementTexts) (parts : List Part) → ws ≡ name ∷ codes "statement" ∷ words_of_parts parts → AreStatementParts t parts → StandApart parts
-    → slice_index t.fares 0 ≢ 45 → slice_index t.zone 0 ≢ 45 → is_account t.account ≡ true → is_some (day_of_text t.day) ≡ true → asked ws ≡ statement (statement_of_texts t)
-asks_statement ws name t parts is are may f z n d = ap asked is
-    ∙ (ap (λ (x : Said). allowed (statement_asked x)) (parts_taken statement_grammar parts (statement_taken t parts are f z n d) may)
-    ∙ (ap allowed (statement_is t parts are) ∙ (rw d refl)))
+    → slice_index t.fares 0 ≢ 45 → slice_index t.zone 0 ≢ 45 → is_account t.account ≡ true → may_state (statement_of_texts t) ≡ true → asked ws ≡ statement (statement_of_texts t)
+asks_statement ws name t parts is are may f z n states = ap asked is
+    ∙ (ap (λ (x : Said). allowed (statement_asked x)) (parts_taken statement_grammar parts (statement_taken t parts are f z n (has_day t states)) may)
+    ∙ (ap allowed (statement_is t parts are) ∙ (rw states refl)))
 
 module _ (t : ExplainTexts) (parts : List Part) (are : AreExplainParts t parts) where
   none_of_explain : (k : Setting) → (IsOption explain_grammar k → ⊥) → Once k (values_of k parts)
@@ -669,6 +693,7 @@ module _ (t : ExplainTexts) (parts : List Part) (are : AreExplainParts t parts) 
   explain_once after_option = none_of_explain after_option (λ e. cc)
   explain_once week_option = subst (Once week_option) (sym are.4) (once_flags week_option refl t.week)
   explain_once staff_option = none_of_explain staff_option (λ e. cc)
+  explain_once long_option = none_of_explain long_option (λ e. cc)
 
   explain_taken : slice_index t.fares 0 ≢ 45 → slice_index t.zone 0 ≢ 45 → is_account t.account ≡ true → is_some (day_of_text t.day) ≡ true → AreTaken explain_grammar parts
   explain_taken f z n d = record {
@@ -703,13 +728,14 @@ module _ (t : PageTexts) (parts : List Part) (are : ArePageParts t parts) (fits 
   page_once greeting_option = subst (Once greeting_option) (sym are.5) (once_listed greeting_option t.greeting (λ v. refl))
   page_once journal_option = subst (Once journal_option) (sym are.2) refl
   page_once sync_option = none_of_page sync_option (λ e. cc)
-  page_once ledger_option = none_of_page ledger_option (λ e. cc)
+  page_once ledger_option = subst (Once ledger_option) (sym are.7) (once_listed ledger_option t.ledger (λ v. refl))
   page_once early_option = none_of_page early_option (λ e. cc)
   page_once lint_option = none_of_page lint_option (λ e. cc)
   page_once against_option = none_of_page against_option (λ e. cc)
   page_once after_option = none_of_page after_option (λ e. cc)
   page_once week_option = none_of_page week_option (λ e. cc)
   page_once staff_option = subst (Once staff_option) (sym are.6) (once_listed staff_option t.staff (λ v. refl))
+  page_once long_option = none_of_page long_option (λ e. cc)
 
   page_taken : slice_index t.fares 0 ≢ 45 → slice_index t.zone 0 ≢ 45 → AreTaken page_grammar parts
   page_taken f z = record {
@@ -720,7 +746,7 @@ module _ (t : PageTexts) (parts : List Part) (are : ArePageParts t parts) (fits 
   }
 
   page_is : page_asked (all_of parts) ≡ page (page_of_texts t)
-  page_is = rw (are.1, are.2, are.3, are.4, are.5, are.6, first_listed t.control, first_listed t.greeting, first_listed t.staff) refl
+  page_is = rw (are.1, are.2, are.3, are.4, are.5, are.6, are.7, first_listed t.control, first_listed t.greeting, first_listed t.staff, first_listed t.ledger) refl
 
 pub asks_page : (ws : List Text) (name : Text) (t : PageTexts) (parts : List Part) → ws ≡ name ∷ codes "page" ∷ words_of_parts parts → ArePageParts t parts → StandApart parts
     → slice_index t.fares 0 ≢ 45 → slice_index t.zone 0 ≢ 45 → ArePorts t → may_show (page_of_texts t) ≡ true → asked ws ≡ page (page_of_texts t)
@@ -758,6 +784,7 @@ module _ (t : ServeTexts) (parts : List Part) (are : ArePartsOf t parts) (fits :
   serve_once after_option = none_of_serve after_option (λ e. cc)
   serve_once week_option = none_of_serve week_option (λ e. cc)
   serve_once staff_option = none_of_serve staff_option (λ e. cc)
+  serve_once long_option = none_of_serve long_option (λ e. cc)
   serve_once ledger_option = subst (Once ledger_option) (sym are.5) (once_listed ledger_option t.ledger (λ v. refl))
   serve_once early_option = subst (Once early_option) (sym are.6) (once_flags early_option refl t.early)
 
@@ -823,6 +850,7 @@ module _ (a : Audit) (parts : List Part) (are : AreAuditParts a parts) where
   audit_once after_option = none_of_audit after_option (λ e. cc)
   audit_once week_option = none_of_audit week_option (λ e. cc)
   audit_once staff_option = none_of_audit staff_option (λ e. cc)
+  audit_once long_option = none_of_audit long_option (λ e. cc)
 
   audit_taken : slice_index a.fares 0 ≢ 45 → slice_index a.zone 0 ≢ 45 → AreTaken audit_grammar parts
   audit_taken f z = record {

@@ -16,7 +16,7 @@ use Rattle.clap.specs.declared.builder.value_parser.ValueParser.TheVariants as v
 use Rattle.clap.specs.declared.builder.value_parser.Reading.TheVariants as reading
 use Rattle.pay_words.specs.Options.{Grammar, Place, Setting, flag_value, is_flag, name_of, place_after, place_reader, reader_of, setting_named}
 use Rattle.pay_words.specs.Options.{port_option, lanes_option, shards_option, sessions_option, close_option, control_option, ahead_option, refused_option, greeting_option, journal_option, sync_option, ledger_option, early_option}
-use Rattle.pay_words.specs.Options.{lint_option, against_option, after_option, week_option, staff_option}
+use Rattle.pay_words.specs.Options.{lint_option, against_option, after_option, week_option, staff_option, long_option}
 use Rattle.pay_words.specs.Options.{fares_place, zone_place, account_place, day_place, ledger_place}
 use Rattle.pay_words.proofs.OptionRows.{a_row, found, no_row, row_added, row_with}
 use Rattle.pay_words.proofs.WordKinds.{LongOptionsBut, Refuses, ShortOptions, help_filled, is_refusal, same_bytes}
@@ -85,6 +85,7 @@ parser_for against_option = vp.String
 parser_for after_option = vp.String
 parser_for week_option = vp.Bool
 parser_for staff_option = vp.String
+parser_for long_option = vp.Bool
 
 -- the options that a program needs
 abbrev pub Needs : Type 0
@@ -110,6 +111,7 @@ is_needed against_option = false
 is_needed after_option = false
 is_needed week_option = false
 is_needed staff_option = false
+is_needed long_option = false
 
 abbrev no_values : ValueRange
 no_values = record { start_inclusive = 0; end_inclusive = 0 }
@@ -146,6 +148,7 @@ option_reads against_option word value = refl
 option_reads after_option word value = refl
 option_reads week_option word value = cc
 option_reads staff_option word value = refl
+option_reads long_option word value = cc
 
 pub option_reading : (needed : Bool) (k : Setting) → reading_by (setting_rule needed k) ≡ reading.AsWritten
 option_reading needed port_option = refl
@@ -166,6 +169,7 @@ option_reading needed against_option = refl
 option_reading needed after_option = refl
 option_reading needed week_option = refl
 option_reading needed staff_option = refl
+option_reading needed long_option = refl
 
 -- ---- names
 
@@ -188,6 +192,7 @@ same_name against_option = refl
 same_name after_option = refl
 same_name week_option = refl
 same_name staff_option = refl
+same_name long_option = refl
 
 -- options of one name are one
 pub same_setting : (j k : Setting) → (j ≡ k) ⊎ (bytes_eq (name_of j) (name_of k) ≡ false)
@@ -209,6 +214,7 @@ same_setting against_option against_option = inl refl
 same_setting after_option after_option = inl refl
 same_setting week_option week_option = inl refl
 same_setting staff_option staff_option = inl refl
+same_setting long_option long_option = inl refl
 same_setting _ _ = inr refl
 
 -- no option has the name of a value
@@ -231,6 +237,7 @@ no_place against_option fares_place = (refl, refl)
 no_place after_option fares_place = (refl, refl)
 no_place week_option fares_place = (refl, refl)
 no_place staff_option fares_place = (refl, refl)
+no_place long_option fares_place = (refl, refl)
 no_place _ _ = (refl, refl)
 
 pub same_place : (p : Place) → bytes_eq (place_name p) (place_name p) ≡ true
@@ -321,38 +328,39 @@ Uses k (v ∷ []) word = (is_flag k ≡ false) × (v ≡ word)
 Uses k (v ∷ w ∷ more) word = ⊥
 
 -- what is so of each flag
-of_flag : (P : Setting → Type 0) → P sync_option → P early_option → P lint_option → P week_option → (k : Setting) → is_flag k ≡ true → P k
-of_flag P sync early lint week port_option flag = cc
-of_flag P sync early lint week lanes_option flag = cc
-of_flag P sync early lint week shards_option flag = cc
-of_flag P sync early lint week sessions_option flag = cc
-of_flag P sync early lint week close_option flag = cc
-of_flag P sync early lint week control_option flag = cc
-of_flag P sync early lint week ahead_option flag = cc
-of_flag P sync early lint week refused_option flag = cc
-of_flag P sync early lint week greeting_option flag = cc
-of_flag P sync early lint week journal_option flag = cc
-of_flag P sync early lint week sync_option flag = sync
-of_flag P sync early lint week ledger_option flag = cc
-of_flag P sync early lint week early_option flag = early
-of_flag P sync early lint week lint_option flag = lint
-of_flag P sync early lint week against_option flag = cc
-of_flag P sync early lint week after_option flag = cc
-of_flag P sync early lint week week_option flag = week
-of_flag P sync early lint week staff_option flag = cc
+of_flag : (P : Setting → Type 0) → P sync_option → P early_option → P lint_option → P week_option → P long_option → (k : Setting) → is_flag k ≡ true → P k
+of_flag P sync early lint week long port_option flag = cc
+of_flag P sync early lint week long lanes_option flag = cc
+of_flag P sync early lint week long shards_option flag = cc
+of_flag P sync early lint week long sessions_option flag = cc
+of_flag P sync early lint week long close_option flag = cc
+of_flag P sync early lint week long control_option flag = cc
+of_flag P sync early lint week long ahead_option flag = cc
+of_flag P sync early lint week long refused_option flag = cc
+of_flag P sync early lint week long greeting_option flag = cc
+of_flag P sync early lint week long journal_option flag = cc
+of_flag P sync early lint week long sync_option flag = sync
+of_flag P sync early lint week long ledger_option flag = cc
+of_flag P sync early lint week long early_option flag = early
+of_flag P sync early lint week long lint_option flag = lint
+of_flag P sync early lint week long against_option flag = cc
+of_flag P sync early lint week long after_option flag = cc
+of_flag P sync early lint week long week_option flag = week
+of_flag P sync early lint week long staff_option flag = cc
+of_flag P sync early lint week long long_option flag = long
 
 flag_reads : (k : Setting) → is_flag k ≡ true → accepts false (parser_for k) flag_value ≡ true
-flag_reads k flag = of_flag (λ j. accepts false (parser_for j) flag_value ≡ true) refl refl refl refl k flag
+flag_reads k flag = of_flag (λ j. accepts false (parser_for j) flag_value ≡ true) refl refl refl refl refl k flag
 
 -- a flag takes what it is given with
 flag_takes : (k : Setting) → is_flag k ≡ true → reader_of k flag_value ≡ true
-flag_takes k flag = of_flag (λ j. reader_of j flag_value ≡ true) refl refl refl refl k flag
+flag_takes k flag = of_flag (λ j. reader_of j flag_value ≡ true) refl refl refl refl refl k flag
 
 -- and nothing else
 pub flag_given : (k : Setting) → is_flag k ≡ true → (v : Text) → reader_of k v ≡ true → v ≡ flag_value
 flag_given k flag =
     let given : (v : Text) → bytes_eq v flag_value ≡ true → v ≡ flag_value = λ v h. same_bytes v flag_value h in
-    of_flag (λ j. (v : Text) → reader_of j v ≡ true → v ≡ flag_value) given given given given k flag
+    of_flag (λ j. (v : Text) → reader_of j v ≡ true → v ≡ flag_value) given given given given given k flag
 
 refuses_value : (k : Setting) → is_refusal (refused_kind (parser_for k)) ≡ true
 refuses_value port_option = refl
@@ -373,6 +381,7 @@ refuses_value against_option = refl
 refuses_value after_option = refl
 refuses_value week_option = refl
 refuses_value staff_option = refl
+refuses_value long_option = refl
 
 refuses_place : (p : Place) → is_refusal (refused_kind (place_parser p)) ≡ true
 refuses_place fares_place = refl

@@ -5,7 +5,7 @@ use Rattle.clap.specs.Simple.{subcommand_of}
 use Rattle.clap.specs.Kinds.{Kinds}
 use Rattle.clap.specs.Faults.{fault_of}
 use Rattle.clap.specs.declared.error.kind.ErrorKind.TheVariants.{DisplayHelp, DisplayVersion, InvalidSubcommand, OutOfMemory}
-use Rattle.pay_words.specs.Asked.{Asked, HaveNoHyphens, IsAnswer, IsJobOrMemory, allowed, asked, check_job, number_of, page_job, run, check, statement, explain, page, replay, serve, audit, rebuild, words_ask, help_asked, help_named, version_asked, usage, IsFaultOf, job_asked, AreJobWords, IsJobInRange, without_dashes}
+use Rattle.pay_words.specs.Asked.{Asked, HaveNoHyphens, IsAnswer, IsJobOrMemory, allowed, asked, check_job, number_of, page_job, run, statement_job, check, statement, explain, page, replay, serve, audit, rebuild, words_ask, help_asked, help_named, version_asked, usage, IsFaultOf, job_asked, AreJobWords, IsJobInRange, without_dashes}
 use Rattle.pay_words.specs.Options.{Part, StandApart, words_of_parts}
 use Rattle.pay_words.specs.Audit.{AreAuditParts, Audit}
 use Rattle.pay_words.specs.Check.{AreCheckParts, Check, CheckTexts, check_of_texts, has_after_day, has_against, may_check}
@@ -14,7 +14,7 @@ use Rattle.pay_words.specs.Greeting.{is_greeting}
 use Rattle.pay_words.specs.Page.{ArePageParts, ArePorts, Page, PageTexts, may_show, page_of_texts}
 use Rattle.pay_words.specs.Run.{AreRunParts, Run, has_journal}
 use Rattle.pay_words.specs.Serve.{AreInRange, ArePartsOf, Serve, ServeTexts, is_whole, last_port, numbers_of}
-use Rattle.pay_words.specs.Statement.{AreStatementParts, Statement, StatementTexts, statement_of_texts}
+use Rattle.pay_words.specs.Statement.{AreStatementParts, Statement, StatementTexts, has_lines, may_state, shows_postings, statement_of_texts}
 use Rattle.std.specs.List.{list_all}
 use Rattle.std.specs.Option.{option_map_or}
 use Rattle.clap.specs.Words.{HasMatchesOf, IsAmong, all_of, first_of, first_value, matched_of, raw_values, rows_of, subcommand_rows_of}
@@ -185,6 +185,8 @@ statement_texts m f s same gives =
       one_text-rows f (codes "ACCOUNT") ∙ (ap (one_of (codes "ACCOUNT")) rows_are ∙ h.2),
       first_value-rows f (codes "DAY") ∙ (ap (first_of (codes "DAY")) rows_are ∙ h.3),
       first_value-rows f (codes "journal") ∙ (ap (first_of (codes "journal")) rows_are ∙ h.4),
+      first_value-rows f (codes "ledger") ∙ (ap (first_of (codes "ledger")) rows_are ∙ h.5),
+      one_text-rows f (codes "long") ∙ (ap (one_of (codes "long")) rows_are ∙ h.6),
     )
 
 -- the matches of `explain` have the words that it is given
@@ -217,6 +219,7 @@ page_texts m f p same gives =
       one_text-rows f (codes "control") ∙ (ap (one_of (codes "control")) rows_are ∙ h.4),
       first_value-rows f (codes "greeting") ∙ (ap (first_of (codes "greeting")) rows_are ∙ h.5),
       first_value-rows f (codes "staff") ∙ (ap (first_of (codes "staff")) rows_are ∙ h.6),
+      first_value-rows f (codes "ledger") ∙ (ap (first_of (codes "ledger")) rows_are ∙ h.7),
     )
 
 -- the matches of `replay` have its values
@@ -358,7 +361,7 @@ by_memory x y Memory e task h = refl
 abbrev IsAllowed : Asked → Type 0
 IsAllowed (run r) = has_journal r ≡ true
 IsAllowed (check c) = may_check c ≡ true
-IsAllowed (statement s) = is_some s.day ≡ true
+IsAllowed (statement s) = may_state s ≡ true
 IsAllowed (explain e) = is_some e.day ≡ true
 IsAllowed (page p) = may_show p ≡ true
 IsAllowed (serve s) = is_whole s ≡ true
@@ -380,9 +383,9 @@ asked_is_allowed (serve s) = go (is_whole s) refl
     go : (t : Bool) → is_whole s ≡ t → IsAllowed (allowed (serve s))
     go true is = rw is is
     go false is = rw is tt
-asked_is_allowed (statement s) = go (is_some s.day) refl
+asked_is_allowed (statement s) = go (may_state s) refl
   where
-    go : (t : Bool) → is_some s.day ≡ t → IsAllowed (allowed (statement s))
+    go : (t : Bool) → may_state s ≡ t → IsAllowed (allowed (statement s))
     go true is = rw is is
     go false is = rw is tt
 asked_is_allowed (explain e) = go (is_some e.day) refl
@@ -457,7 +460,8 @@ job_in_range ws (CheckJob w) e =
 job_in_range ws (StatementJob w) e =
     let made = job_words_are ws (StatementJob w) e in
     let account = number_in_range 1 4_294_967_295 made.0.account w.account made.4 (ap (λ (s : Statement). s.account) made.5) in
-    (account.0, account.1, day_is_day made.0.day w.day (ap (λ (s : Statement). s.day) made.5))
+    let long = both (has_lines (statement_job w)) (shows_postings (statement_job w)) (subst IsAllowed e (asked_is_allowed (words_ask ws))) in
+    (account.0, account.1, day_is_day made.0.day w.day (ap (λ (s : Statement). s.day) made.5), long.0, long.1)
 job_in_range ws (ExplainJob w) e =
     let made = job_words_are ws (ExplainJob w) e in
     let account = number_in_range 1 4_294_967_295 made.0.account w.account made.4 (ap (λ (x : Explain). x.account) made.5) in
@@ -525,8 +529,8 @@ module _ (r : Result Job WordsFault) (ws : List Text) (ok : IfOk r (λ job. aske
   result_check name t parts is are may f fits = job_or_memory r ws (check (check_of_texts t)) ok err (asks_check ws name t parts is are may f fits) tt
 
   pub result_statement : (name : Text) (t : StatementTexts) (parts : List Part) → ws ≡ name ∷ codes "statement" ∷ words_of_parts parts → AreStatementParts t parts → StandApart parts
-      → slice_index t.fares 0 ≢ 45 → slice_index t.zone 0 ≢ 45 → is_account t.account ≡ true → is_some (day_of_text t.day) ≡ true → IsJobOrMemory (statement (statement_of_texts t)) r
-  result_statement name t parts is are may f z n d = job_or_memory r ws (statement (statement_of_texts t)) ok err (asks_statement ws name t parts is are may f z n d) tt
+      → slice_index t.fares 0 ≢ 45 → slice_index t.zone 0 ≢ 45 → is_account t.account ≡ true → may_state (statement_of_texts t) ≡ true → IsJobOrMemory (statement (statement_of_texts t)) r
+  result_statement name t parts is are may f z n states = job_or_memory r ws (statement (statement_of_texts t)) ok err (asks_statement ws name t parts is are may f z n states) tt
 
   pub result_explain : (name : Text) (t : ExplainTexts) (parts : List Part) → ws ≡ name ∷ codes "explain" ∷ words_of_parts parts → AreExplainParts t parts → StandApart parts
       → slice_index t.fares 0 ≢ 45 → slice_index t.zone 0 ≢ 45 → is_account t.account ≡ true → is_some (day_of_text t.day) ≡ true → IsJobOrMemory (explain (explain_of_texts t)) r

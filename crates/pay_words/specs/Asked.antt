@@ -26,7 +26,7 @@ pub use Rattle.pay_words.specs.OneWord.{Reader, any_text, is_account, is_port, n
 pub use Rattle.pay_words.specs.Options.{HasNoHyphen}
 use Rattle.pay_words.specs.Options.{Part, Said, StandApart, all_of, all_said, help_wanted, not_taken, plain, apart, joined, plain_words, values_of, words_of_parts}
 use Rattle.pay_words.specs.Options.{port_option, lanes_option, shards_option, sessions_option, close_option, control_option, ahead_option, refused_option, greeting_option, journal_option, sync_option, ledger_option, early_option}
-use Rattle.pay_words.specs.Options.{lint_option, against_option, after_option, week_option, staff_option}
+use Rattle.pay_words.specs.Options.{lint_option, against_option, after_option, week_option, staff_option, long_option}
 use Rattle.pay_words.specs.Audit.{AreAuditParts, Audit, audit_grammar}
 use Rattle.pay_words.specs.Check.{AreCheckParts, Check, CheckTexts, check_grammar, check_of_texts, has_against, may_check}
 use Rattle.pay_words.specs.Explain.{AreExplainParts, Explain, ExplainTexts, explain_grammar, explain_of_texts}
@@ -35,7 +35,7 @@ use Rattle.pay_words.specs.Page.{ArePageParts, ArePorts, Page, PageTexts, has_co
 use Rattle.pay_words.specs.Rebuild.{rebuild_grammar}
 use Rattle.pay_words.specs.Run.{AreRunParts, Run, first_given, has_journal, is_given, run_grammar}
 use Rattle.pay_words.specs.Serve.{AreInRange, ArePartsOf, Serve, ServeTexts, is_whole, last_port, numbers_of, serve_grammar}
-use Rattle.pay_words.specs.Statement.{AreStatementParts, Statement, StatementTexts, statement_grammar, statement_of_texts}
+use Rattle.pay_words.specs.Statement.{AreStatementParts, Statement, StatementTexts, has_lines, may_state, shows_postings, statement_grammar, statement_of_texts}
 
 -- ---- the words of a program that takes values alone, and help
 
@@ -129,20 +129,23 @@ check_asked (all_of parts) = check_of (plain_words parts) (values_of lint_option
 check_asked help_wanted = help_asked
 check_asked not_taken = usage
 
--- four values, and what the option was given
-abbrev pub statement_of : List Text → List Text → Asked
-statement_of (fares ∷ zone ∷ account ∷ day ∷ []) j = statement (statement_of_texts (record {
+-- four values, and what each option was given
+abbrev pub statement_of : List Text → List Text → List Text → List Text → Asked
+statement_of (fares ∷ zone ∷ account ∷ day ∷ []) j l w = statement (statement_of_texts (record {
   fares = fares;
   zone = zone;
   account = account;
   day = day;
   journal = first_given j;
+  ledger = first_given l;
+  long = is_given w;
 }))
-statement_of _ _ = usage
+statement_of _ _ _ _ = usage
 
--- `statement FARES ZONE ACCOUNT DAY` and its option
+-- `statement FARES ZONE ACCOUNT DAY` and its options
 abbrev pub statement_asked : Said → Asked
-statement_asked (all_of parts) = statement_of (plain_words parts) (values_of journal_option parts)
+statement_asked (all_of parts) = statement_of (plain_words parts) (values_of journal_option parts) (values_of ledger_option parts)
+    (values_of long_option parts)
 statement_asked help_wanted = help_asked
 statement_asked not_taken = usage
 
@@ -167,8 +170,8 @@ explain_asked help_wanted = help_asked
 explain_asked not_taken = usage
 
 -- two values, one journal, one port, and what each other option was given
-abbrev pub page_of : List Text → List Text → List Text → List Text → List Text → List Text → Asked
-page_of (fares ∷ zone ∷ []) (j ∷ []) (p ∷ []) c t s = page (page_of_texts (record {
+abbrev pub page_of : List Text → List Text → List Text → List Text → List Text → List Text → List Text → Asked
+page_of (fares ∷ zone ∷ []) (j ∷ []) (p ∷ []) c t s l = page (page_of_texts (record {
   fares = fares;
   zone = zone;
   journal = j;
@@ -176,13 +179,15 @@ page_of (fares ∷ zone ∷ []) (j ∷ []) (p ∷ []) c t s = page (page_of_text
   control = first_given c;
   greeting = first_given t;
   staff = first_given s;
+  ledger = first_given l;
 }))
-page_of _ _ _ _ _ _ = usage
+page_of _ _ _ _ _ _ _ = usage
 
 -- `page FARES ZONE` and its options
 abbrev pub page_asked : Said → Asked
 page_asked (all_of parts) = page_of (plain_words parts) (values_of journal_option parts) (values_of port_option parts)
     (values_of control_option parts) (values_of greeting_option parts) (values_of staff_option parts)
+    (values_of ledger_option parts)
 page_asked help_wanted = help_asked
 page_asked not_taken = usage
 
@@ -271,11 +276,11 @@ words_ask (name ∷ program ∷ rest) = program_asked program rest
 words_ask _ = usage
 
 -- a service ends or stays, a run without a journal brings no lines to the disk, a day is one, days up to one are
--- compared with another fare file alone, and pages ask a service at a port of their own, without which they have no clerks
+-- compared with another fare file alone, a long statement has a journal, by which alone it has a ledger, and pages ask a service at a port of their own, without which they have no clerks
 abbrev pub allowed : Asked → Asked
 allowed (run r) = if has_journal r then run r else usage
 allowed (check c) = if may_check c then check c else usage
-allowed (statement s) = if is_some s.day then statement s else usage
+allowed (statement s) = if may_state s then statement s else usage
 allowed (explain e) = if is_some e.day then explain e else usage
 allowed (page p) = if may_show p then page p else usage
 allowed (serve s) = if is_whole s then serve s else usage
@@ -315,6 +320,8 @@ statement_job w = record {
   account = w.account;
   day = Some w.day;
   journal = option_map (λ s. s.now) w.journal;
+  ledger = option_map (λ s. s.now) w.ledger;
+  long = w.long;
 }
 
 abbrev pub explain_job : ExplainWords → Explain
@@ -337,6 +344,7 @@ page_job w = record {
   control = w.control;
   greeting = option_map (λ s. s.now) w.greeting;
   staff = option_map (λ s. s.now) w.staff;
+  ledger = option_map (λ s. s.now) w.ledger;
 }
 
 abbrev pub served_job : ServeWords → Serve
@@ -461,12 +469,13 @@ AreJobWords (AuditJob w) words = AreAuditWords (audit_job w) words
 AreJobWords (Rebuild w) words = words ≡ codes "rebuild" ∷ w.fares.now ∷ w.ledger.now ∷ []
 
 -- the numbers of a job are in their ranges, what is synced is a journal, days up to one are compared with another
--- fare file, there is a journal to be replayed, the staff of a service that stays have a port of their own, also where
+-- fare file, a long statement has a journal and a short one no ledger, there is a journal to be replayed, the staff of a service that stays have a port of their own, also where
 -- pages ask something of them, without which pages have no clerks, and a greeting is one, where there is any
 abbrev pub IsJobInRange : Job → Type 0
 IsJobInRange (RunJob w) = has_journal (run_job w) ≡ true
 IsJobInRange (CheckJob w) = (has_against (check_job w) ≡ true) × IfSome w.after IsDay
 IsJobInRange (StatementJob w) = (1 ≤ w.account) × (w.account ≤ MOST_ACCOUNT) × IsDay w.day
+    × (has_lines (statement_job w) ≡ true) × (shows_postings (statement_job w) ≡ true)
 IsJobInRange (ExplainJob w) = (1 ≤ w.account) × (w.account ≤ MOST_ACCOUNT) × IsDay w.day
 IsJobInRange (PageJob w) = (1 ≤ w.port) × (w.port ≤ MOST_PORT)
     × IfSome w.control (λ control. (1 ≤ control) × (control ≤ MOST_PORT) × (control ≢ w.port))
@@ -525,11 +534,12 @@ CheckIsTaken words result = (name : Text) (t : CheckTexts) (parts : List Part) �
     → AreCheckParts t parts → StandApart parts → HasNoHyphen t.fares → may_check (check_of_texts t) ≡ true
     → IsJobOrMemory (check (check_of_texts t)) result
 
--- two words with no hyphen before them, an account, a day and perhaps the option, anywhere, are those of `statement`
+-- two words with no hyphen before them, an account, a day and perhaps the options that may stand together,
+-- anywhere, are those of `statement`
 abbrev pub StatementIsTaken : List Text → Result Job WordsFault → Type 0
 StatementIsTaken words result = (name : Text) (t : StatementTexts) (parts : List Part) → words ≡ name ∷ codes "statement" ∷ words_of_parts parts
     → AreStatementParts t parts → StandApart parts → HasNoHyphen t.fares → HasNoHyphen t.zone → is_account t.account ≡ true
-    → is_some (day_of_text t.day) ≡ true
+    → may_state (statement_of_texts t) ≡ true
     → IsJobOrMemory (statement (statement_of_texts t)) result
 
 -- two words with no hyphen before them, an account, a day, the journal that is needed and perhaps the other options,
@@ -750,7 +760,7 @@ abbrev statement_words : Text → Text → List Text
 statement_words account day = codes "statement" ∷ codes "a" ∷ codes "b" ∷ account ∷ day ∷ []
 
 abbrev statement_of_7 : ℕ → Statement
-statement_of_7 day = record { fares = codes "a"; zone = codes "b"; account = 7; day = Some day; journal = None }
+statement_of_7 day = record { fares = codes "a"; zone = codes "b"; account = 7; day = Some day; journal = None; ledger = None; long = false }
 
 statement_row : row (statement_words (codes "7") (codes "19730")) ≡ statement (statement_of_7 19_730)
 unfolding chars day_on_literals
@@ -761,9 +771,43 @@ statement_journal_row : row (codes "statement" ∷ codes "a" ∷ codes "b" ∷ c
 unfolding chars day_on_literals
 statement_journal_row = refl
 
--- which is only read
-statement_ledger_row : row (codes "statement" ∷ codes "a" ∷ codes "b" ∷ codes "7" ∷ codes "19730" ∷ codes "--ledger=l" ∷ []) ≡ usage
+-- the long form has a journal
+abbrev long_statement_words : List Text → List Text
+long_statement_words options = statement_words (codes "7") (codes "19730") ++ codes "--journal=j" ∷ options
+
+abbrev long_statement_of_7 : Statement
+long_statement_of_7 = record (statement_of_7 19_730) { journal = Some (codes "j"); long = true }
+
+statement_long_row : row (long_statement_words (codes "--long" ∷ [])) ≡ statement long_statement_of_7
+unfolding chars day_on_literals
+statement_long_row = refl
+
+statement_long_ledger_row : row (codes "statement" ∷ codes "--ledger" ∷ codes "l" ∷ codes "a" ∷ codes "--long" ∷ codes "b" ∷ codes "7" ∷ codes "--journal=j" ∷ codes "19730" ∷ [])
+    ≡ statement (record long_statement_of_7 { ledger = Some (codes "l") })
+unfolding chars day_on_literals
+statement_long_ledger_row = refl
+
+-- and no standard input
+statement_long_alone_row : row (statement_words (codes "7") (codes "19730") ++ codes "--long" ∷ []) ≡ usage
+unfolding chars day_on_literals
+statement_long_alone_row = refl
+
+-- it is given once, and without a value
+statement_long_twice_row : row (long_statement_words (codes "--long" ∷ codes "--long" ∷ [])) ≡ usage
 unfolding chars
+statement_long_twice_row = refl
+
+statement_long_value_row : row (long_statement_words (codes "--long=true" ∷ [])) ≡ usage
+unfolding chars
+statement_long_value_row = refl
+
+-- the short form shows nothing of a ledger
+statement_short_ledger_row : row (long_statement_words (codes "--ledger=l" ∷ [])) ≡ usage
+unfolding chars day_on_literals
+statement_short_ledger_row = refl
+
+statement_ledger_row : row (codes "statement" ∷ codes "a" ∷ codes "b" ∷ codes "7" ∷ codes "19730" ∷ codes "--ledger=l" ∷ []) ≡ usage
+unfolding chars day_on_literals
 statement_ledger_row = refl
 
 -- and closes nothing
@@ -1238,6 +1282,7 @@ plain_page = record {
   control = None;
   greeting = None;
   staff = None;
+  ledger = None;
 }
 
 page_row : row (page_words (codes "--journal" ∷ codes "j" ∷ codes "--port" ∷ codes "8080" ∷ [])) ≡ page plain_page
@@ -1356,10 +1401,19 @@ staff_of_serve_row : row (serve_words (codes "--control=9100" ∷ codes "--staff
 unfolding chars
 staff_of_serve_row = refl
 
--- what was posted is not asked
-page_ledger_row : row (page_words (codes "--journal=j" ∷ codes "--port=8080" ∷ codes "--ledger=l" ∷ [])) ≡ usage
+-- a ledger may be named, once
+page_ledger_row : row (page_words (codes "--journal=j" ∷ codes "--port=8080" ∷ codes "--ledger=l" ∷ [])) ≡ page (record plain_page { ledger = Some (codes "l") })
 unfolding chars
 page_ledger_row = refl
+
+page_ledger_twice_row : row (page_words (codes "--journal=j" ∷ codes "--ledger=l" ∷ codes "--port=8080" ∷ codes "--ledger=l" ∷ [])) ≡ usage
+unfolding chars
+page_ledger_twice_row = refl
+
+-- which closes nothing
+page_early_row : row (page_words (codes "--journal=j" ∷ codes "--port=8080" ∷ codes "--ledger=l" ∷ codes "--early" ∷ [])) ≡ usage
+unfolding chars
+page_early_row = refl
 
 page_zone_row : row (codes "page" ∷ codes "a" ∷ codes "--journal=j" ∷ codes "--port=8080" ∷ []) ≡ usage
 unfolding chars

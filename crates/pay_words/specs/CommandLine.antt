@@ -82,9 +82,10 @@ abbrev pub with_account_and_day : App → App
 with_account_and_day app = with_rule (with_rule (with_fares_and_zone app)
     (required_number (codes "ACCOUNT") 1 MOST_ACCOUNT)) (required_word (codes "DAY"))
 
--- `statement FARES ZONE ACCOUNT DAY [--journal FILE]`
+-- `statement FARES ZONE ACCOUNT DAY [--journal FILE] [--ledger FILE] [--long]`
 abbrev pub statement_app : App
-statement_app = with_rule (with_account_and_day (new_app (codes "statement"))) (text_option (codes "journal"))
+statement_app = with_rule (with_rule (with_rule (with_account_and_day (new_app (codes "statement"))) (text_option (codes "journal")))
+    (text_option (codes "ledger"))) (flag_option (codes "long"))
 
 -- `explain FARES ZONE ACCOUNT DAY --journal PATH [--ledger FILE] [--week]`
 abbrev pub explain_app : App
@@ -96,10 +97,10 @@ abbrev pub with_control : App → App
 with_control app = with_rule (with_rule (with_rule app (optional_number (codes "control") 1 MOST_PORT)) (text_option (codes "greeting")))
     (text_option (codes "staff"))
 
--- `page FARES ZONE --journal PATH --port P [--control C [--greeting TEXT] [--staff FILE]]`
+-- `page FARES ZONE --journal PATH --port P [--control C [--greeting TEXT] [--staff FILE]] [--ledger FILE]`
 abbrev pub page_app : App
-page_app = with_control (with_rule (with_rule (with_fares_and_zone (new_app (codes "page"))) (required_text (codes "journal")))
-    (required_option (codes "port") 1 MOST_PORT))
+page_app = with_rule (with_control (with_rule (with_rule (with_fares_and_zone (new_app (codes "page"))) (required_text (codes "journal")))
+    (required_option (codes "port") 1 MOST_PORT))) (text_option (codes "ledger"))
 
 -- `replay FARES ZONE FILE..`
 abbrev pub replay_app : App
@@ -180,7 +181,8 @@ HasCheckTexts f t = (first_value f (codes "FARES") ≡ Some t.fares) × (one_tex
 abbrev pub HaveStatementTexts : List Row → StatementTexts → Type 0
 HaveStatementTexts rows t = (first_of (codes "FARES") rows ≡ Some t.fares) × (first_of (codes "ZONE") rows ≡ Some t.zone)
     × (one_of (codes "ACCOUNT") rows ≡ Some t.account) × (first_of (codes "DAY") rows ≡ Some t.day)
-    × (first_of (codes "journal") rows ≡ t.journal)
+    × (first_of (codes "journal") rows ≡ t.journal) × (first_of (codes "ledger") rows ≡ t.ledger)
+    × (one_of (codes "long") rows ≡ Some (flag_text t.long))
 
 -- the matches are those of `statement` with these values, and an account in its range
 abbrev pub GivesStatement : ArgMatches → Statement → Type 0
@@ -191,7 +193,8 @@ GivesStatement m s = (t : StatementTexts) × (rows : List Row) × (subcommand_ro
 abbrev pub HasStatementTexts : Found → StatementTexts → Type 0
 HasStatementTexts f t = (first_value f (codes "FARES") ≡ Some t.fares) × (first_value f (codes "ZONE") ≡ Some t.zone)
     × (one_text f (codes "ACCOUNT") ≡ Some t.account) × (first_value f (codes "DAY") ≡ Some t.day)
-    × (first_value f (codes "journal") ≡ t.journal)
+    × (first_value f (codes "journal") ≡ t.journal) × (first_value f (codes "ledger") ≡ t.ledger)
+    × (one_text f (codes "long") ≡ Some (flag_text t.long))
 
 -- these rows have the words that `explain` is given
 abbrev pub HaveExplainTexts : List Row → ExplainTexts → Type 0
@@ -217,7 +220,7 @@ abbrev pub HavePageTexts : List Row → PageTexts → Type 0
 HavePageTexts rows t = (first_of (codes "FARES") rows ≡ Some t.fares) × (first_of (codes "ZONE") rows ≡ Some t.zone)
     × (first_of (codes "journal") rows ≡ Some t.journal) × (one_of (codes "port") rows ≡ Some t.port)
     × (one_of (codes "control") rows ≡ t.control) × (first_of (codes "greeting") rows ≡ t.greeting)
-    × (first_of (codes "staff") rows ≡ t.staff)
+    × (first_of (codes "staff") rows ≡ t.staff) × (first_of (codes "ledger") rows ≡ t.ledger)
 
 -- the matches are those of `page` with these values, and ports in their range
 abbrev pub GivesPage : ArgMatches → Page → Type 0
@@ -229,7 +232,7 @@ abbrev pub HasPageTexts : Found → PageTexts → Type 0
 HasPageTexts f t = (first_value f (codes "FARES") ≡ Some t.fares) × (first_value f (codes "ZONE") ≡ Some t.zone)
     × (first_value f (codes "journal") ≡ Some t.journal) × (one_text f (codes "port") ≡ Some t.port)
     × (one_text f (codes "control") ≡ t.control) × (first_value f (codes "greeting") ≡ t.greeting)
-    × (first_value f (codes "staff") ≡ t.staff)
+    × (first_value f (codes "staff") ≡ t.staff) × (first_value f (codes "ledger") ≡ t.ledger)
 
 -- the subcommand that the matches have, with its values and its files
 abbrev pub values_and_files : Text × List Row → Text × Option Text × Option Text × Option (List Text)

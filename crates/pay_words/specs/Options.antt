@@ -43,6 +43,7 @@ pub data Setting : Type 0 where
   after_option : Setting
   week_option : Setting
   staff_option : Setting
+  long_option : Setting
 
 abbrev pub name_of : Setting → Text
 name_of port_option = codes "port"
@@ -63,6 +64,7 @@ name_of against_option = codes "against"
 name_of after_option = codes "after"
 name_of week_option = codes "week"
 name_of staff_option = codes "staff"
+name_of long_option = codes "long"
 
 abbrev pub is_flag : Setting → Bool
 is_flag port_option = false
@@ -83,6 +85,7 @@ is_flag against_option = false
 is_flag after_option = false
 is_flag week_option = true
 is_flag staff_option = false
+is_flag long_option = true
 
 -- the value that a flag is given with
 abbrev pub flag_value : Text
@@ -111,6 +114,7 @@ reader_of against_option = any_text
 reader_of after_option = any_text
 reader_of week_option = is_flag_value
 reader_of staff_option = any_text
+reader_of long_option = is_flag_value
 
 -- what a program takes: values in these places, in order, and these options, in any
 pub record Grammar : Type 0 where

@@ -4,11 +4,11 @@ use Rattle.std.specs.Option.{option_map_or}
 use Rattle.pay_words.specs.Greeting.{may_greet}
 use Rattle.pay_words.specs.OneWord.{Text, is_port, number_of}
 use Rattle.pay_words.specs.Options.{AreParts, Grammar, Part, plain_words, values_of}
-use Rattle.pay_words.specs.Options.{fares_place, zone_place, journal_option, port_option, control_option, greeting_option, staff_option}
+use Rattle.pay_words.specs.Options.{fares_place, zone_place, journal_option, port_option, control_option, greeting_option, staff_option, ledger_option}
 use Rattle.pay_words.specs.Run.{listed}
 
 -- what `page` is asked for; the service is asked at its port `control`, with a greeting or none, and the clerks in the file `staff`
--- may correct
+-- may correct; what was posted is shown by the ledger in a file
 pub record Page : Type 0 where
   pub fares : Text
   pub zone : Text
@@ -17,6 +17,7 @@ pub record Page : Type 0 where
   pub control : Option ℕ
   pub greeting : Option Text
   pub staff : Option Text
+  pub ledger : Option Text
 
 -- the words that `page` is given
 pub record PageTexts : Type 0 where
@@ -27,11 +28,12 @@ pub record PageTexts : Type 0 where
   pub control : Option Text
   pub greeting : Option Text
   pub staff : Option Text
+  pub ledger : Option Text
 
 abbrev pub page_grammar : Grammar
 page_grammar = record {
   places = fares_place ∷ zone_place ∷ [];
-  options = journal_option ∷ port_option ∷ control_option ∷ greeting_option ∷ staff_option ∷ [];
+  options = journal_option ∷ port_option ∷ control_option ∷ greeting_option ∷ staff_option ∷ ledger_option ∷ [];
 }
 
 abbrev pub page_of_texts : PageTexts → Page
@@ -43,6 +45,7 @@ page_of_texts t = record {
   control = option_map number_of t.control;
   greeting = t.greeting;
   staff = t.staff;
+  ledger = t.ledger;
 }
 
 -- the ports among the words of `page` are in their range, where they are given
@@ -54,7 +57,7 @@ abbrev pub ArePageParts : PageTexts → List Part → Type 0
 ArePageParts t parts = AreParts page_grammar parts × (plain_words parts ≡ t.fares ∷ t.zone ∷ [])
     × (values_of journal_option parts ≡ t.journal ∷ []) × (values_of port_option parts ≡ t.port ∷ [])
     × (values_of control_option parts ≡ listed t.control) × (values_of greeting_option parts ≡ listed t.greeting)
-    × (values_of staff_option parts ≡ listed t.staff)
+    × (values_of staff_option parts ≡ listed t.staff) × (values_of ledger_option parts ≡ listed t.ledger)
 
 -- a greeting and a file of clerks are given with a port for the staff of a service alone
 abbrev pub has_control : Page → Bool

@@ -13,7 +13,8 @@ it has, or its first fault; or compare it with another";
 
 /// What `statement` does.
 pub const STATEMENT: &str = "\
-Read taps and corrections from standard input, and print the statement of an account's week as CSV";
+Read taps and corrections from standard input, and print the statement of an account's
+week as CSV; or a long one, from journals, with all that the week comes to";
 
 /// What `explain` does.
 pub const EXPLAIN: &str = "\
@@ -77,7 +78,8 @@ that is accepted is added before its reply. It is made if it is missing";
 /// What the option `--journal` of `statement` is.
 pub const JOURNAL_READ: &str = "\
 A file of the lines that were accepted. They are taken first; it is only
-read";
+read. With --long, a journal that has the account, or a folder of
+journals";
 
 /// What the option `--journal` of `serve` is.
 pub const JOURNALS: &str = "\
@@ -98,6 +100,22 @@ pub const JOURNAL_AUDITED: &str = "A journal, or a folder of journals; it is onl
 
 /// What the option `--ledger` of `explain` is.
 pub const LEDGER_EXPLAINED: &str = "The SQLite file that days were closed into; it is only read";
+
+/// What the option `--ledger` of `statement` is.
+pub const LEDGER_STATED: &str = "\
+With --long: the SQLite file that days were closed into, for what was
+posted; it is only read";
+
+/// What the option `--long` is.
+pub const LONG: &str = "\
+Print the long statement, which names places, and has rows for caps,
+Credits and what was posted. It needs --journal, and standard input is
+not read";
+
+/// What the option `--ledger` of `page` is.
+pub const LEDGER_SHOWN: &str = "\
+The SQLite file that days were closed into, or a copy of it, for what was
+posted; it is only read";
 
 /// What the option `--week` is.
 pub const WEEK: &str = "Explain its week through that day, in place of the day alone";
@@ -216,12 +234,14 @@ FARES ZONE --port P --lanes L --shards N --control C --journal FOLDER --ledger F
 
 Further options: --journal FILE and --ledger FILE of run, and --sync with --journal; --lint and
 --against OLD of check, where OLD is another fare file, and --after DAY with --against; --journal
-FILE of statement, where it is only read; --ledger FILE of explain, where it is only read, and
---week, for the week through DAY; --control C of page, to ask a service, --greeting TEXT, which that
-service has, and --staff FILE, the clerks who may correct; --journal FOLDER and --ledger FILE of
-serve; --ahead S of serve with --control, to refuse taps more than S seconds ahead of this machine's
-clock, --refused FILE, to which refused lines are added, and --greeting TEXT, with which connections
-begin; --early of run and of serve, to close a day that is not over yet; --ledger FILE of audit.
+FILE of statement, where it is only read, --long with --journal PATH, for the long statement, and
+--ledger FILE with --long; --ledger FILE of explain, where it is only read, and --week, for the week
+through DAY; --control C of page, to ask a service, --greeting TEXT, which that service has, --staff
+FILE, the clerks who may correct, and --ledger FILE, where it is only read; --journal FOLDER and
+--ledger FILE of serve; --ahead S of serve with --control, to refuse taps more than S seconds ahead
+of this machine's clock, --refused FILE, to which refused lines are added, and --greeting TEXT, with
+which connections begin; --early of run and of serve, to close a day that is not over yet; --ledger
+FILE of audit.
 
 Example: account 7 boards a bus in London on Monday 8 January 2024 at 07:00. The reply names the
 day, counted from 1970-01-01, its price and that of its week, in pence.
@@ -289,6 +309,11 @@ printed; at the end of input the journeys of its week are, a row for each.
   day,kind,from,to,start,fare,band
   19730,BUS,50,0,07:00:00,175,-
 
+With --long too, PATH is also a FOLDER of `serve --journal FOLDER`, standard input is not read, and
+the rows are those of the whole week: its journeys with the names of places, what caps take off, the
+Credits, and with --ledger FILE what was posted. The column `amount` adds up to what is due, and the
+column `posted` to what was charged.
+
 Statuses:
   0  all right
   1  a fault, which one line on standard error names
@@ -313,7 +338,8 @@ pub const BELOW_PAGE: &str = "\
 PATH is the FILE of `run --journal FILE`, or the FOLDER of `serve --journal FOLDER`. The ports are
 of 127.0.0.1 alone. Standard input is not read. With --control C the pages show at /metrics what
 `serve --control C` has counted. With --staff FILE too, the clerks in FILE may correct, and their
-corrections are sent to that port. If the service has a --greeting, the pages need the same.
+corrections are sent to that port. If the service has a --greeting, the pages need the same. With
+--ledger FILE the page of a week shows what was posted. FILE may be a copy of the ledger.
 
 Statuses:
   0  all right

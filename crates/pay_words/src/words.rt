@@ -26,7 +26,7 @@ ghost use Rattle.pay_words.specs.Greeting.{begins_or_ends_with_space, is_greetin
 ghost use Rattle.pay_words.specs.Page.{ArePorts, Page, PageTexts, has_control, has_own_port, may_show, page_of_texts};
 ghost use Rattle.pay_words.specs.Run.{Run, has_journal};
 ghost use Rattle.pay_words.specs.Serve.{AreInRange, Serve, ServeTexts, closed_day, has_more, has_no_end, has_ports, leaves_room, numbers_of};
-ghost use Rattle.pay_words.specs.Statement.{Statement, StatementTexts, statement_of_texts};
+ghost use Rattle.pay_words.specs.Statement.{Statement, StatementTexts, has_lines, may_state, shows_postings, statement_of_texts};
 ghost use Rattle.pay_words.specs.Asked.{check as check_asked, run as run_asked, without_dashes};
 ghost use Rattle.pay_words.specs.Asked.{audit as audit_asked, explain as explain_asked, page as page_asked, rebuild as rebuild_asked};
 ghost use Rattle.pay_words.specs.Asked.{replay as replay_asked, serve as serve_asked, statement as statement_asked, number_of};
@@ -55,8 +55,8 @@ pub enum Job<'a> {
     /// `check FARES` and its options: how many of each thing a fare file has, or whether it prices days as another
     /// does.
     Check(CheckWords<'a>),
-    /// `statement FARES ZONE ACCOUNT DAY` and its option: the statement of an account's week, by the lines of
-    /// a journal and of standard input.
+    /// `statement FARES ZONE ACCOUNT DAY` and its options: the statement of an account's week, by the lines of
+    /// a journal and of standard input, or the long one, by journals alone.
     Statement(StatementWords<'a>),
     /// `explain FARES ZONE ACCOUNT DAY --journal PATH` and its options: why an account's day was charged, or its week
     /// through that day.
@@ -111,7 +111,7 @@ pub struct CheckWords<'a> {
     pub after: Option<u32>,
 }
 
-/// The values of `statement FARES ZONE ACCOUNT DAY [--journal FILE]`.
+/// The values of `statement FARES ZONE ACCOUNT DAY [--journal PATH [--long [--ledger FILE]]]`.
 #[derive(Clone, Copy)]
 pub struct StatementWords<'a> {
     /// The path of the fare file.
@@ -122,8 +122,14 @@ pub struct StatementWords<'a> {
     pub account: u32,
     /// A service day of the week that is asked for, counted from 1970-01-01: 4 to 50,000.
     pub day: u32,
-    /// The path of the file of accepted lines, which are taken first; it is only read.
+    /// The path of the file of accepted lines, which are taken first; it is only read. In the long form, of a
+    /// journal or of a folder of journals.
     pub journal: Option<&'a str>,
+    /// The path of the SQLite file that days were closed into; it is only read. Only in the long form.
+    pub ledger: Option<&'a str>,
+    /// Whether it is the long form, which has sums and names, and all that the week comes to. Only where there is
+    /// a journal.
+    pub long: bool,
 }
 
 /// The values of `explain FARES ZONE ACCOUNT DAY --journal PATH [--ledger FILE] [--week]`.
@@ -145,7 +151,7 @@ pub struct ExplainWords<'a> {
     pub week: bool,
 }
 
-/// The values of `page FARES ZONE --journal PATH --port P [--control C [--greeting TEXT] [--staff FILE]]`.
+/// The values of `page FARES ZONE --journal PATH --port P [--control C [--greeting TEXT] [--staff FILE]] [--ledger FILE]`.
 #[derive(Clone, Copy)]
 pub struct PageWords<'a> {
     /// The path of the fare file.
@@ -163,6 +169,9 @@ pub struct PageWords<'a> {
     pub greeting: Option<&'a str>,
     /// The path of the file of the clerks who may correct. Without it, nobody does.
     pub staff: Option<&'a str>,
+    /// The path of the SQLite file that days were closed into; it is only read. Without it, what was posted is not
+    /// shown.
+    pub ledger: Option<&'a str>,
 }
 
 /// The values of `replay FARES ZONE FILE..`.
@@ -303,8 +312,8 @@ impl From<AllocError> for WordsFault {
 ///
 /// A word that begins with a hyphen and goes on is an option: help, in the place of a program the
 /// version, one of the options of its program, and no other. The value of an option is the next word, or
-/// stands after an equals sign in the same; `--sync`, `--early`, `--lint` and `--week` have none. `--sync` is taken
-/// with `--journal` alone, and `--after` with `--against`. Each is given once, before, between or after the other
+/// stands after an equals sign in the same; `--sync`, `--early`, `--lint`, `--week` and `--long` have none. `--sync` and
+/// `--long` are taken with `--journal` alone, `--after` with `--against`, and `--ledger` of `statement` with `--long`. Each is given once, before, between or after the other
 /// values. `--` says that each word after it is a value. Numbers are decimal digits, which may have a plus and zeros
 /// before them; one outside its range is refused as `Usage`, and so are lanes with a port above 65,535. A day is given
 /// by its number or by its date, as `2024-01-08`.
@@ -333,16 +342,16 @@ pub fn read_words<'a>(alloc: Global, words: &'a [&'a str]) -> Result<Job<'a>, Wo
     // a day is one, and comes with another fare file.
     ensures check { CheckIsTaken (texts words.entry.now) result }
 
-    // Two words with no hyphen before them, an account, a day, and perhaps a journal, anywhere, are the values of
-    // `statement`.
+    // Two words with no hyphen before them, an account, a day, and perhaps options that may stand together, anywhere, are
+    // the values of `statement`.
     ensures statement { StatementIsTaken (texts words.entry.now) result }
 
     // Two words with no hyphen before them, an account, a day, a journal, and perhaps other options, in any order, are
     // the values of `explain`.
     ensures explain { ExplainIsTaken (texts words.entry.now) result }
 
-    // Two words with no hyphen before them, a journal, a port, and perhaps the port for the staff of a service, with its
-    // greeting and a file of clerks, in any order, are the values of `page`.
+    // Two words with no hyphen before them, a journal, a port, and perhaps a ledger and the port for the staff of a
+    // service, with its greeting and a file of clerks, in any order, are the values of `page`.
     ensures page { PageIsTaken (texts words.entry.now) result }
 
     // Three words or more with no hyphen before them are the values of `replay`.
@@ -488,8 +497,12 @@ fn statement_command<'a>(alloc: Global) -> Result<Command<'a>, AllocError>
     let command = Command::new(alloc, "statement")
         .about(help::STATEMENT)
         .after_help(help::BELOW_STATEMENT);
-    let numbered = with_account_and_day(alloc, command, help::DAY)?;
-    numbered.arg(text_option(alloc, "journal", "FILE", help::JOURNAL_READ))
+    let kept = with_two(
+        with_account_and_day(alloc, command, help::DAY)?,
+        text_option(alloc, "journal", "PATH", help::JOURNAL_READ),
+        text_option(alloc, "ledger", "FILE", help::LEDGER_STATED),
+    )?;
+    kept.arg(flag_option(alloc, "long", help::LONG))
 }
 
 /// A command with the words FARES, ZONE, ACCOUNT and DAY, after those that it has; help says what the day is.
@@ -536,7 +549,7 @@ fn page_command<'a>(alloc: Global) -> Result<Command<'a>, AllocError>
         required_text(alloc, "journal", "PATH", help::JOURNAL_SHOWN),
         number_option(alloc, "port", "P", help::PORT_OF_PAGES, 1, MOST_PORT),
     )?;
-    with_control(alloc, shown)
+    with_control(alloc, shown)?.arg(text_option(alloc, "ledger", "FILE", help::LEDGER_SHOWN))
 }
 
 /// A command with the options of `page` by which a service is asked and clerks may correct, after the words that it has.
@@ -851,7 +864,7 @@ fn statement_job<'a>(statement: &ArgMatches<'a>) -> Result<Job<'a>, WordsFault>
         → IsAnswer (allowed (statement_asked (statement_of_texts t))) result }
 {
     match statement_words(statement) {
-        Some(words) => Ok(Job::Statement(words)),
+        Some(words) => stated_job(words),
         None => Err(WordsFault::Usage),
     }
 }
@@ -867,7 +880,34 @@ fn statement_words<'a>(statement: &ArgMatches<'a>) -> Option<StatementWords<'a>>
         account: number_of(statement, "ACCOUNT")?,
         day: read_day(statement.get_str("DAY")?)?,
         journal: statement.get_str("journal"),
+        ledger: statement.get_str("ledger"),
+        long: is_flagged(statement, "long"),
     })
+}
+
+/// The job of `statement`, where its options may stand together.
+fn stated_job(words: StatementWords<'_>) -> Result<Job<'_>, WordsFault>
+    ensures { IsAnswer (allowed (statement_asked (statement_job words.entry))) result }
+{
+    if has_lines(&words) && shows_postings(&words) {
+        Ok(Job::Statement(words))
+    } else {
+        Err(WordsFault::Usage)
+    }
+}
+
+/// Whether there is a journal, if the statement is a long one.
+fn has_lines(words: &StatementWords<'_>) -> bool
+    ensures { result ≡ has_lines (statement_job words.now) }
+{
+    !words.long || words.journal.is_some()
+}
+
+/// Whether it is a long one, if there is a ledger.
+fn shows_postings(words: &StatementWords<'_>) -> bool
+    ensures { result ≡ shows_postings (statement_job words.now) }
+{
+    words.ledger.is_none() || words.long
 }
 
 fn explain_job<'a>(explain: &ArgMatches<'a>) -> Result<Job<'a>, WordsFault>
@@ -919,6 +959,7 @@ fn page_words<'a>(page: &ArgMatches<'a>) -> Option<PageWords<'a>>
         control: port_of(page, "control"),
         greeting: page.get_str("greeting"),
         staff: page.get_str("staff"),
+        ledger: page.get_str("ledger"),
     })
 }
 
