@@ -4,7 +4,8 @@ use Rattle.std.specs.Fmt.{digits}
 use Rattle.pay_fare_file.specs.declared.key.Key.TheVariants as key
 use Rattle.pay_fare_file.specs.declared.spot.Spot.TheVariants.{AtKey, InRules, AtItem, InItem}
 use Rattle.pay_fare_file.specs.declared.spot.FaultPlace.TheVariants.{Line, Own, OfEdition}
-use Rattle.pay_fare_file.specs.Printed.{place_text}
+use Rattle.pay_dates.specs.Dates.{dated_text}
+use Rattle.pay_fare_file.specs.Printed.{named_day, place_text}
 
 a_line : place_text (Line 12) ≡ codes "at line 12"
 unfolding digits
@@ -24,14 +25,24 @@ a_band : place_text (Own (InItem key.Band 3 key.Week)) ≡ codes "at band 3, key
 unfolding digits
 a_band = refl
 
-in_an_edition : place_text (OfEdition 19_731 (InItem key.Band 3 key.Week)) ≡ codes "at the edition of day 19731, band 3, key week"
-unfolding digits
-in_an_edition = refl
+in_an_edition : dated_text 19_731 ≡ codes "day 19731, 2024-01-09"
+    → place_text (OfEdition 19_731 (InItem key.Band 3 key.Week)) ≡ codes "at the edition of day 19731, 2024-01-09, band 3, key week"
+unfolding digits named_day
+in_an_edition date = rw date refl
 
-rule_of_an_edition : place_text (OfEdition 19_731 (InRules key.Hopper)) ≡ codes "at the edition of day 19731, key rules.hopper"
-unfolding digits
-rule_of_an_edition = refl
+rule_of_an_edition : dated_text 19_731 ≡ codes "day 19731, 2024-01-09"
+    → place_text (OfEdition 19_731 (InRules key.Hopper)) ≡ codes "at the edition of day 19731, 2024-01-09, key rules.hopper"
+unfolding digits named_day
+rule_of_an_edition date = rw date refl
 
 day_of_an_edition : place_text (Own (InItem key.Edition 2 key.Day)) ≡ codes "at edition 2, key day"
 unfolding digits
 day_of_an_edition = refl
+
+no_service_day : named_day 3 ≡ codes "day 3"
+unfolding digits named_day
+no_service_day = refl
+
+nor_is_this : named_day 50_001 ≡ codes "day 50001"
+unfolding digits named_day
+nor_is_this = refl

@@ -1,5 +1,6 @@
 //! Where a fare file is at fault.
 use crate::key::Key;
+use crate::named_day::NamedDay;
 use std::fmt;
 
 /// A place among the keys of a file, or of one of its editions.
@@ -69,7 +70,10 @@ impl fmt::Display for FaultPlace {
         match self {
             FaultPlace::Line(line) => write!(f, "at line {line}"),
             FaultPlace::Own(spot) => write!(f, "at {spot}"),
-            FaultPlace::OfEdition(day, spot) => write!(f, "at the edition of day {day}, {spot}"),
+            FaultPlace::OfEdition(day, spot) => {
+                let day = NamedDay(*day);
+                write!(f, "at the edition of {day}, {spot}")
+            }
         }
     }
 }
