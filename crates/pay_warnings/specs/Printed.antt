@@ -3,7 +3,7 @@ use Rattle.std.specs.Prelude.{ℕ, nat_lt, ◌==◌, ◌||◌, Bool, List, [], �
 use Rattle.std.specs.List.{list_any}
 use Rattle.std.specs.Fmt.{decimal}
 use Rattle.pay_fare_file.specs.declared.spot.Spot.{Spot}
-use Rattle.pay_fare_file.specs.Printed.{spot_text}
+use Rattle.pay_fare_file.specs.Printed.{named_day, spot_text}
 use Rattle.pay_warnings.specs.declared.warning.TableAt.{TableAt}
 use Rattle.pay_warnings.specs.declared.warning.Concern.{Concern}
 use Rattle.pay_warnings.specs.declared.warning.Concern.TheVariants.{NotRead, PeakBelowOff, FareOfZero, WeekBelowDay, CapOfZero, NoBands, NoHolidayAfter, NoHolidays}
@@ -13,8 +13,8 @@ use Rattle.pay_warnings.specs.Warnings.{Said, not_read, peak_below_off, fare_of_
 abbrev pub table_text_of : Option ℕ → Option Spot → List ℕ
 table_text_of None None = []
 table_text_of None (Some spot) = codes "at " ++ spot_text spot ++ codes ": "
-table_text_of (Some day) None = codes "at the edition of day " ++ decimal day ++ codes ": "
-table_text_of (Some day) (Some spot) = codes "at the edition of day " ++ decimal day ++ codes ", " ++ spot_text spot ++ codes ": "
+table_text_of (Some day) None = codes "at the edition of " ++ named_day day ++ codes ": "
+table_text_of (Some day) (Some spot) = codes "at the edition of " ++ named_day day ++ codes ", " ++ spot_text spot ++ codes ": "
 
 abbrev pub table_text : TableAt → List ℕ
 table_text at = table_text_of at.edition at.spot
@@ -33,7 +33,7 @@ concern_text FareOfZero = codes "a fare of 0"
 concern_text (WeekBelowDay week day) = codes "week " ++ decimal week ++ codes " is below day " ++ decimal day
 concern_text CapOfZero = codes "a cap of 0"
 concern_text NoBands = codes "no bands"
-concern_text (NoHolidayAfter day) = codes "no holiday after day " ++ decimal day
+concern_text (NoHolidayAfter day) = codes "no holiday after " ++ named_day day
 concern_text NoHolidays = codes "no holidays"
 
 -- a line of what is said
@@ -44,5 +44,5 @@ said_text (fare_of_zero at) = table_text at ++ codes "a fare of 0"
 said_text (week_below_day at week day) = table_text at ++ (codes "week " ++ decimal week ++ codes " is below day " ++ decimal day)
 said_text (cap_of_zero at) = table_text at ++ codes "a cap of 0"
 said_text (no_bands at) = table_text at ++ codes "no bands"
-said_text (no_holiday_after at day) = table_text at ++ (codes "no holiday after day " ++ decimal day)
+said_text (no_holiday_after at day) = table_text at ++ (codes "no holiday after " ++ named_day day)
 said_text (no_holidays at) = table_text at ++ codes "no holidays"

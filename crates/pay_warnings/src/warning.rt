@@ -3,7 +3,7 @@ ghost use Rattle.std.specs.Prelude.{◌≡◌};
 ghost use Rattle.std.specs.List.{list_any};
 ghost use Rattle.pay_warnings.specs.Printed.{is_control, shown_name};
 
-use pay_fare_file::{Key, Spot};
+use pay_fare_file::{NamedDay, Spot};
 use pay_money::Pence;
 use std::fmt;
 
@@ -54,8 +54,14 @@ impl fmt::Display for TableAt {
         match (self.edition, self.spot) {
             (None, None) => Ok(()),
             (None, Some(spot)) => write!(f, "at {spot}: "),
-            (Some(day), None) => write!(f, "at the edition of day {day}: "),
-            (Some(day), Some(spot)) => write!(f, "at the edition of day {day}, {spot}: "),
+            (Some(day), None) => {
+                let day = NamedDay(day);
+                write!(f, "at the edition of {day}: ")
+            }
+            (Some(day), Some(spot)) => {
+                let day = NamedDay(day);
+                write!(f, "at the edition of {day}, {spot}: ")
+            }
         }
     }
 }
@@ -85,7 +91,10 @@ impl fmt::Display for Concern {
             }
             Concern::CapOfZero => f.write_str("a cap of 0"),
             Concern::NoBands => f.write_str("no bands"),
-            Concern::NoHolidayAfter(day) => write!(f, "no holiday after day {day}"),
+            Concern::NoHolidayAfter(day) => {
+                let day = NamedDay(*day);
+                write!(f, "no holiday after {day}")
+            }
             Concern::NoHolidays => f.write_str("no holidays"),
         }
     }
