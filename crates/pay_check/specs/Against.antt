@@ -1,5 +1,5 @@
 -- How a check of a fare file against an old one ends, by the two texts and the last day that has to be priced alike.
-use Rattle.std.specs.Prelude.{◌≡◌, ◌⊎◌, ℕ, ◌+◌, ◌≤◌, ◌<◌, List, Option, Some, None, Ok, codes}
+use Rattle.std.specs.Prelude.{◌≡◌, ◌⊎◌, ℕ, ◌+◌, ◌≤◌, List, Option, Some, None, Ok, codes}
 use Rattle.std.specs.Io.KnownBytes.{Appends}
 use Rattle.pay_day.specs.declared.limits.TheConstants.{FIRST_DAY, LAST_DAY}
 use Rattle.pay_tables.specs.Words.{FareEditions}

@@ -4,7 +4,7 @@ ghost use Rattle.pay_check.specs.declared.fault.CheckFault.TheVariants.{Refused}
 ghost use Rattle.pay_fare_file.specs.declared.fault.FareFileFault.TheVariants.{Memory};
 
 use pay_compare::Key;
-use pay_fare_file::FareFileFault;
+use pay_fare_file::{FareFileFault, NamedDay};
 use std::alloc::AllocError;
 use thiserror::Error;
 
@@ -19,7 +19,7 @@ pub enum CheckFault {
     OldRefused(FareFileFault),
     /// The fare file prices this day, counted from 1970-01-01, otherwise than the old one, by this key. All days from 4
     /// through `last_alike` are priced alike; there are none where that is 3.
-    #[error("other fares on day {day}: {key}, days through {last_alike} agree")]
+    #[error("other fares on {}: {key}; days agree through {}", NamedDay(*.day), NamedDay(*.last_alike))]
     OtherFares { day: u32, key: Key, last_alike: u32 },
     /// The writer failed.
     #[error("output fault")]

@@ -5,7 +5,7 @@ ghost use Rattle.pay_fare_file.specs.Words.{fault_number, fault_name};
 ghost use Rattle.pay_ledger.specs.Words.{open_fault_number, open_fault_name};
 
 use crate::lacked::Lacked;
-use pay_fare_file::FareFileFault;
+use pay_fare_file::{FareFileFault, NamedDay};
 use pay_journal::ReplayFault;
 use pay_kept::KeptFault;
 use pay_ledger::{LedgerFault, OpenFault};
@@ -41,7 +41,7 @@ pub enum FileFault {
     #[error("a new ledger beside a journal that had one")]
     NewLedger,
     /// A posting of this account that is noted beside the journal is not in the ledger.
-    #[error("another or an older ledger than the journal's: no posting of account {account} for week {week} through {through}")]
+    #[error("another or an older ledger than the journal's: no posting of account {account} for the week from {}, through {}", NamedDay(*.week), NamedDay(*.through))]
     LacksPosting {
         account: u32,
         week: u32,
@@ -96,7 +96,7 @@ pub enum Fault {
     #[error("farebox: in the ledger and not in the journal: {0}")]
     Lacks(Lacked),
     /// What was posted for this account is not what is due by its journal and this fare file.
-    #[error("farebox: account {account} was posted otherwise for week {week} through {through}")]
+    #[error("farebox: account {account} was posted otherwise for the week from {}, through {}", NamedDay(*.week), NamedDay(*.through))]
     PostedOtherwise {
         account: u32,
         week: u32,

@@ -3,13 +3,14 @@ ghost use Rattle.std.specs.Prelude.{◌≡◌};
 ghost use Rattle.pay_wire.specs.Spellings.{spelling_of_kind};
 ghost use Rattle.pay_jobs.specs.Taken.{IsLackedTap, IsLackedFix};
 
+use pay_fare_file::NamedDay;
 use pay_rules::{Fix, Kind, Tap, What};
 use thiserror::Error;
 
 /// An archived tap or correction, as its line and where its instant falls.
 #[derive(Clone, Copy, Debug, PartialEq, Eq, Error)]
 pub enum Lacked {
-    #[error("TAP {reader} {seq} {account} {utc} {place} {kind}, on day {day} at second {second}")]
+    #[error("TAP {reader} {seq} {account} {utc} {place} {kind}, on {}, at second {second}", NamedDay(*.day))]
     Tap {
         reader: u16,
         seq: u32,
@@ -28,7 +29,7 @@ pub enum Lacked {
         reader: u16,
         tap: u32,
     },
-    #[error("FIX {staff} {seq} {account} FILL {utc} {place} {kind}, on day {day} at second {second}")]
+    #[error("FIX {staff} {seq} {account} FILL {utc} {place} {kind}, on {}, at second {second}", NamedDay(*.day))]
     Fill {
         staff: u16,
         seq: u32,
@@ -39,7 +40,7 @@ pub enum Lacked {
         day: u32,
         second: u32,
     },
-    #[error("FIX {staff} {seq} {account} CREDIT {day} {pence}")]
+    #[error("FIX {staff} {seq} {account} CREDIT {day} {pence}, of {}", NamedDay(*.day))]
     Credit {
         staff: u16,
         seq: u32,

@@ -3,7 +3,7 @@ ghost use Rattle.std.specs.Prelude.{◌≡◌};
 ghost use Rattle.pay_kept.specs.declared.fault.KeptFault.TheVariants.{Memory};
 
 use pay_compare::Key;
-use pay_fare_file::FareFileFault;
+use pay_fare_file::{FareFileFault, NamedDay};
 use std::alloc::AllocError;
 use thiserror::Error;
 
@@ -18,7 +18,7 @@ pub enum KeptFault {
     Refused(FareFileFault),
     /// Its fare file prices this day, counted from 1970-01-01, otherwise by this key, or has not this place; and this account has an
     /// effective tap of this other day, which is no earlier.
-    #[error("other fares than the journal's on day {day}: {key}; account {account} travelled on day {on}")]
+    #[error("other fares than the journal's on {}: {key}; account {account} travelled on {}", NamedDay(*.day), NamedDay(*.on))]
     OtherFares {
         day: u32,
         key: Key,
