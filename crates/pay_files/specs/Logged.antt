@@ -1,17 +1,11 @@
 -- What a service says of itself.
-use Rattle.std.specs.Prelude.{◌≡◌, ◌/◌, ◌%◌, ◌||◌, nat_lt, ℕ, if◌then◌else◌, List, [], ◌++◌, Option, None, Some, codes, decimal, refl}
+use Rattle.std.specs.Prelude.{◌≡◌, ◌/◌, ◌%◌, ℕ, List, [], ◌++◌, Option, None, Some, codes, decimal, refl}
 use Rattle.std.specs.Fmt.{digits}
-use Rattle.pay_dates.specs.Words.{dated_text}
-use Rattle.pay_day.specs.declared.limits.TheConstants.{FIRST_DAY, LAST_DAY}
 
 -- how many lines a start took again, and in how many tenths of a second
 abbrev pub took_text : ℕ → ℕ → List ℕ
 took_text lines tenths = codes "took " ++ (decimal lines ++ (codes " lines of journals in " ++
     (decimal (tenths / 10) ++ (codes "." ++ (decimal (tenths % 10) ++ codes " s")))))
-
--- how a service day is called: by its number, and by its date if it has one
-abbrev pub named_day : ℕ → List ℕ
-named_day day = if nat_lt day FIRST_DAY || nat_lt LAST_DAY day then codes "day " ++ decimal day else dated_text day
 
 -- a name and its number in the reply to STATS, if that is known
 abbrev pub named : List ℕ → Option ℕ → List ℕ
@@ -31,11 +25,3 @@ no_time = refl
 bytes_of_journals : named (codes "journal_bytes") (Some 4_096) ≡ codes " journal_bytes=4096"
 unfolding digits
 bytes_of_journals = refl
-
-no_service_day : named_day 3 ≡ codes "day 3"
-unfolding digits
-no_service_day = refl
-
-nor_is_this : named_day 50_001 ≡ codes "day 50001"
-unfolding digits
-nor_is_this = refl

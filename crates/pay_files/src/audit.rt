@@ -1,5 +1,6 @@
 //! The jobs that look at what journals and a ledger in a file have: `audit` and `rebuild`.
 
+use crate::calendar_date::CalendarDate;
 use crate::errors::memory_or;
 use crate::input::{fares_text, report_line};
 use crate::journal::{JOURNALS, is_new_ledger, path_in, read_journal};
@@ -166,10 +167,12 @@ fn print_audit<R: Print>(rt: &R, found: &Audit) -> io::Result<()> {
     for it in &found.open.unsettled {
         let (account, week, through) = (it.account, it.week, it.through);
         let (due, posted) = (it.due, it.posted);
-        println!(rt; "UNSETTLED {account} {week} {through} {due} {posted}")?;
+        let (monday, last) = (CalendarDate(week), CalendarDate(through));
+        println!(rt; "UNSETTLED {account} {week} {through} {due} {posted} {monday} {last}")?;
     }
     for (week, accounts) in &found.open.unclosed {
-        println!(rt; "UNCLOSED {week} {accounts}")?;
+        let monday = CalendarDate(*week);
+        println!(rt; "UNCLOSED {week} {accounts} {monday}")?;
     }
     for day in &found.open.closes {
         println!(rt; "CLOSE {day}")?;

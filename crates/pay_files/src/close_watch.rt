@@ -1,8 +1,8 @@
 //! What is known of closes into a ledger in a file.
 
 use crate::last_close::{Close, LastClose};
-use crate::named_day::NamedDay;
 use crate::noted::NotedPosting;
+use pay_fare_file::NamedDay;
 use pay_jobs::{Alter, Fault, LastPosting, Ledger, NotClosed, Watch, is_over, read_zone};
 use pay_log::{Level, Log};
 use std::alloc::AllocError;

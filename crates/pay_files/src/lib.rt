@@ -4,6 +4,7 @@
 
 mod audit;
 mod backup;
+mod calendar_date;
 mod check;
 mod close_watch;
 mod errors;
@@ -14,7 +15,6 @@ mod lane_files;
 mod last_close;
 mod ledgers;
 mod loads;
-mod named_day;
 mod noted;
 mod reporting_keeper;
 mod run;
