@@ -1,5 +1,5 @@
 -- Pages by their parts.
-use Rattle.std.proofs.Common.{◌≡◌, ℕ, List, ◌++◌, map, filter, ap, ◌∙◌}
+use Rattle.std.proofs.Common.{◌≡◌, ℕ, Bool, List, ◌++◌, map, filter, ap, ◌∙◌}
 use Rattle.pay_day.specs.Words.{monday}
 use Rattle.pay_names.specs.Words.{Named}
 use Rattle.pay_tables.specs.Words.{FareEditions}
@@ -35,31 +35,31 @@ parts_are title names editions list day facts are =
     ∙ ap (λ (reason : CapReason). journeys_part title names editions journeys boardings (listed_journeys editions journeys boardings day) ++ day_sums reason) are.reason
 
 -- and so the page
-pub day_page_is : (names : Named) (editions : FareEditions) (accepted : Accepted) (account day : ℕ) (title text : List ℕ) (facts : DayFacts) → title ≡ day_title account day
+pub day_page_is : (corrects : Bool) (names : Named) (editions : FareEditions) (accepted : Accepted) (account day : ℕ) (title text : List ℕ) (facts : DayFacts) → title ≡ day_title account day
     → AreDayFacts editions accepted day facts
     → text
     ≡ page_start title
-    ++ (day_links account day ++ (day_parts_of title names editions facts ++ (corrections_part (correction_items names accepted.taps accepted.fixes day) ++ page_end)))
-    → text ≡ day_page_text names editions accepted account day
-day_page_is names editions accepted account day title text facts titled are is =
+    ++ (day_links corrects account day ++ (day_parts_of title names editions facts ++ (corrections_part (correction_items names accepted.taps accepted.fixes day) ++ page_end)))
+    → text ≡ day_page_text corrects names editions accepted account day
+day_page_is corrects names editions accepted account day title text facts titled are is =
     let rest : List ℕ = corrections_part (correction_items names accepted.taps accepted.fixes day) ++ page_end in
-    let links = day_links account day in
+    let links = day_links corrects account day in
     is
     ∙ ap (λ (its : List ℕ). page_start its ++ (links ++ (day_parts_of its names editions facts ++ rest))) titled
     ∙ ap (λ (parts : List ℕ). page_start (day_title account day) ++ (links ++ (parts ++ rest))) (parts_are (day_title account day) names editions (touches accepted) day facts are)
 
 -- the page of a week by its facts
-pub week_page_is : (editions : FareEditions) (accepted : Accepted) (account through : ℕ) (title text days : List ℕ) (those : List PricedDay) (facts : WeekFacts)
+pub week_page_is : (corrects : Bool) (posted : List ℕ) (editions : FareEditions) (accepted : Accepted) (account through : ℕ) (title text days : List ℕ) (those : List PricedDay) (facts : WeekFacts)
     → title ≡ week_title account (monday through) through → AreWeekFacts editions accepted through facts → those ≡ facts.days.items → days ≡ days_through through
-    → text ≡ page_start title ++ (week_links account through ++ (days_part account days those ++ (week_sums facts.reason accepted.fixes through ++ page_end)))
-    → text ≡ week_page_text editions accepted account through
-week_page_is editions accepted account through title text days those facts titled are same each is =
-    let links = week_links account through in
+    → text ≡ page_start title ++ (week_links corrects account through ++ (days_part account days those ++ (week_sums facts.reason accepted.fixes through ++ (posted ++ page_end))))
+    → text ≡ week_page_text corrects posted editions accepted account through
+week_page_is corrects posted editions accepted account through title text days those facts titled are same each is =
+    let links = week_links corrects account through in
     let start = page_start (week_title account (monday through) through) in
     let list : List Journey = rail_journeys editions (touches accepted) ++ bus_journeys editions (filter is_bus (touches accepted)) in
     let week = map (with_journeys list) (days_through through) in
     is
-    ∙ ap (λ (its : List ℕ). page_start its ++ (links ++ (days_part account days those ++ (week_sums facts.reason accepted.fixes through ++ page_end)))) titled
-    ∙ ap (λ (its : List ℕ). start ++ (links ++ (days_part account its those ++ (week_sums facts.reason accepted.fixes through ++ page_end)))) each
-    ∙ ap (λ (its : List PricedDay). start ++ (links ++ (days_part account (days_through through) its ++ (week_sums facts.reason accepted.fixes through ++ page_end)))) (same ∙ are.days)
-    ∙ ap (λ (reason : CapReason). start ++ (links ++ (days_part account (days_through through) (map (priced editions) week) ++ (week_sums reason accepted.fixes through ++ page_end)))) are.reason
+    ∙ ap (λ (its : List ℕ). page_start its ++ (links ++ (days_part account days those ++ (week_sums facts.reason accepted.fixes through ++ (posted ++ page_end))))) titled
+    ∙ ap (λ (its : List ℕ). start ++ (links ++ (days_part account its those ++ (week_sums facts.reason accepted.fixes through ++ (posted ++ page_end))))) each
+    ∙ ap (λ (its : List PricedDay). start ++ (links ++ (days_part account (days_through through) its ++ (week_sums facts.reason accepted.fixes through ++ (posted ++ page_end))))) (same ∙ are.days)
+    ∙ ap (λ (reason : CapReason). start ++ (links ++ (days_part account (days_through through) (map (priced editions) week) ++ (week_sums reason accepted.fixes through ++ (posted ++ page_end))))) are.reason

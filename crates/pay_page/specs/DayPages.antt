@@ -1,5 +1,5 @@
 -- The page of a day.
-use Rattle.std.specs.Prelude.{◌≡◌, ℕ, List, [], ◌∷◌, ◌++◌, filter, codes}
+use Rattle.std.specs.Prelude.{◌≡◌, ℕ, Bool, List, [], ◌∷◌, ◌++◌, filter, codes}
 use Rattle.pay_names.specs.Words.{Named}
 use Rattle.pay_tables.specs.Words.{FareEditions, on}
 use Rattle.pay_rules.specs.declared.tap.Touch.{Touch}
@@ -46,10 +46,10 @@ day_parts_by title names editions journeys taps day =
 abbrev pub day_parts : List ℕ → Named → FareEditions → List Touch → ℕ → List ℕ
 day_parts title names editions list day = day_parts_by title names editions (rail_journeys editions list) (filter is_bus list) day
 
--- the page of a day, by what an account has accepted
-abbrev pub day_page_text : Named → FareEditions → Accepted → ℕ → ℕ → List ℕ
-day_page_text names editions accepted account day =
+-- the page of a day, by what an account has accepted, and whether accounts may be corrected
+abbrev pub day_page_text : Bool → Named → FareEditions → Accepted → ℕ → ℕ → List ℕ
+day_page_text corrects names editions accepted account day =
     page_start (day_title account day)
-    ++ (day_links account day
+    ++ (day_links corrects account day
     ++ (day_parts (day_title account day) names editions (touches accepted) day
     ++ (corrections_part (correction_items names accepted.taps accepted.fixes day) ++ page_end)))

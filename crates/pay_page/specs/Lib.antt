@@ -7,6 +7,7 @@ pub mod Marks
 pub mod Picture
 pub mod Corrections
 pub mod DayPages
+pub mod Posted
 pub mod WeekPages
 pub mod FormPages
 pub mod Words

@@ -38,23 +38,30 @@ nav_start = codes "<nav>\n<ul>\n<li><a href=\"/\">Another account or day</a></li
 abbrev nav_end : List ℕ
 nav_end = codes "</ul>\n</nav>\n"
 
--- from a day to its week and to the days beside it
-unfoldable pub day_links : ℕ → ℕ → List ℕ
-day_links account day =
+-- an item with the link to the corrections of a day, where accounts may be corrected
+abbrev pub correct_item : Bool → ℕ → ℕ → List ℕ → List ℕ
+correct_item true account day label = codes "<li>" ++ (link (codes "<a href=\"/correct?account=") account day label ++ codes "</li>\n")
+correct_item false account day label = []
+
+-- from a day to its week, to the days beside it, and perhaps to its corrections
+unfoldable pub day_links : Bool → ℕ → ℕ → List ℕ
+day_links corrects account day =
     nav_start
     ++ (week_item account day (codes "The week through this day")
-    ++ (day_item account (day - 1) (codes "The day before") ++ (day_item account (day + 1) (codes "The day after") ++ nav_end)))
+    ++ (day_item account (day - 1) (codes "The day before")
+    ++ (day_item account (day + 1) (codes "The day after") ++ (correct_item corrects account day (codes "Correct this day") ++ nav_end))))
 
--- from a week to those beside it, each through its Sunday
-unfoldable pub week_links : ℕ → ℕ → List ℕ
-week_links account through =
+-- from a week to those beside it, each through its Sunday, and perhaps to the corrections of its last day
+unfoldable pub week_links : Bool → ℕ → ℕ → List ℕ
+week_links corrects account through =
     nav_start
     ++ (week_item account (monday through - 1) (codes "The week before")
-    ++ (week_item account (monday through + (2 * DAYS_PER_WEEK - 1)) (codes "The week after") ++ nav_end))
+    ++ (week_item account (monday through + (2 * DAYS_PER_WEEK - 1)) (codes "The week after")
+    ++ (correct_item corrects account through (codes "Correct its last day") ++ nav_end)))
 
 -- ---- worked rows, from Tuesday, 2024-01-09, and from the first day of all
 
-from_a_tuesday : day_links 7 19_731
+from_a_tuesday : day_links false 7 19_731
     ≡ codes "<nav>\n<ul>\n<li><a href=\"/\">Another account or day</a></li>\n"
     ++ codes "<li><a href=\"/week?account=7&amp;day=19731\">The week through this day</a></li>\n"
     ++ codes "<li><a href=\"/day?account=7&amp;day=19730\">The day before</a></li>\n"
@@ -63,10 +70,11 @@ from_a_tuesday : day_links 7 19_731
 unfolding digits day_links day_link
 from_a_tuesday = refl
 
-weeks_of_a_tuesday : week_links 7 19_731
+weeks_of_a_tuesday : week_links true 7 19_731
     ≡ codes "<nav>\n<ul>\n<li><a href=\"/\">Another account or day</a></li>\n"
     ++ codes "<li><a href=\"/week?account=7&amp;day=19729\">The week before</a></li>\n"
     ++ codes "<li><a href=\"/week?account=7&amp;day=19743\">The week after</a></li>\n"
+    ++ codes "<li><a href=\"/correct?account=7&amp;day=19731\">Correct its last day</a></li>\n"
     ++ codes "</ul>\n</nav>\n"
 unfolding digits week_links
 weeks_of_a_tuesday = refl

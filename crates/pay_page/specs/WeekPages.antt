@@ -1,5 +1,5 @@
 -- The page of a week.
-use Rattle.std.specs.Prelude.{◌≡◌, ℕ, List, ◌++◌, map, filter, codes}
+use Rattle.std.specs.Prelude.{◌≡◌, ℕ, Bool, List, ◌++◌, map, filter, codes}
 use Rattle.std.specs.List.{flat_map, zip}
 use Rattle.pay_day.specs.Words.{monday}
 use Rattle.pay_tables.specs.Words.{FareEditions}
@@ -38,11 +38,11 @@ week_sums reason fixes through =
     sums_start (codes "The price of the week through this day")
     ++ (week_sum_rows reason ++ (flat_map credit_row (counted_credits fixes through) ++ (due_rows (due_reason reason.price fixes through) ++ table_end)))
 
--- the page of a week through a day, by what an account has accepted
-abbrev pub week_page_text : FareEditions → Accepted → ℕ → ℕ → List ℕ
-week_page_text editions accepted account through =
+-- the page of a week through a day, by whether accounts may be corrected, the part of what was posted, and what an account has accepted
+abbrev pub week_page_text : Bool → List ℕ → FareEditions → Accepted → ℕ → ℕ → List ℕ
+week_page_text corrects posted editions accepted account through =
     let list = rail_journeys editions (touches accepted) ++ bus_journeys editions (filter is_bus (touches accepted)) in
     let week = map (with_journeys list) (days_through through) in
     page_start (week_title account (monday through) through)
-    ++ (week_links account through
-    ++ (days_part account (days_through through) (map (priced editions) week) ++ (week_sums (week_reason editions (monday through) week) accepted.fixes through ++ page_end)))
+    ++ (week_links corrects account through
+    ++ (days_part account (days_through through) (map (priced editions) week) ++ (week_sums (week_reason editions (monday through) week) accepted.fixes through ++ (posted ++ page_end))))

@@ -3,5 +3,6 @@ unfoldable pub use Rattle.pay_page.specs.Frame.{page_start, page_end}
 pub use Rattle.pay_page.specs.Headings.{named_day}
 unfoldable pub use Rattle.pay_page.specs.Links.{day_link}
 pub use Rattle.pay_page.specs.DayPages.{day_page_text}
+pub use Rattle.pay_page.specs.Posted.{is_of_ledger, posted_part}
 pub use Rattle.pay_page.specs.WeekPages.{week_page_text}
 pub use Rattle.pay_page.specs.FormPages.{form_page_text}

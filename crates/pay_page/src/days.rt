@@ -106,9 +106,10 @@ fn push_facts(
 
 /// The page of a service day of an account, counted from 1970-01-01, by the accepted taps and corrections of the account: what
 /// `explained_day` of `pay_explain` tells, as an HTML document, with a picture of the day and links to the days beside it and
-/// to its week. An `Err` is out of memory.
+/// to its week; and to its corrections, where accounts may be corrected. An `Err` is out of memory.
 pub fn day_page(
     alloc: Global,
+    corrects: bool,
     names: &Names,
     editions: &Editions,
     taps: &TapSet,
@@ -117,7 +118,7 @@ pub fn day_page(
     day: u32,
 ) -> Result<String, AllocError>
     requires { IsDay day }
-    ensures { IfOk result (λ text. string_bytes text ≡ day_page_text names.now editions.now (record { taps = taps.now; fixes = fixes.now }) account day) }
+    ensures { IfOk result (λ text. string_bytes text ≡ day_page_text corrects names.now editions.now (record { taps = taps.now; fixes = fixes.now }) account day) }
 {
     let facts = day_facts(alloc, editions, taps, fixes, day)?;
     let title = title_of(alloc, account, day)?;
@@ -126,7 +127,7 @@ pub fn day_page(
     let end = PageEnd;
     let mut text = String::new(alloc);
     write!(text, "{start}")?;
-    push_day_links(&mut text, account, day)?;
+    push_day_links(&mut text, corrects, account, day)?;
     push_facts(alloc, &mut text, title, names, editions, &facts)?;
     push_corrections(alloc, &mut text, names, taps, fixes, day)?;
     write!(text, "{end}")?;

@@ -29,6 +29,15 @@ struct WeekLink<'a> {
     label: &'a str,
 }
 
+/// An item of a list with the link to the corrections of a day of an account, where accounts may be corrected, and else nothing.
+#[derive(Clone, Copy)]
+struct CorrectItem<'a> {
+    corrects: bool,
+    account: u32,
+    day: u32,
+    label: &'a str,
+}
+
 /// An item of a list with the link to a day, where that is a service day, and else nothing.
 #[derive(Clone, Copy)]
 struct DayItem<'a>(DayLink<'a>);
@@ -70,6 +79,25 @@ impl<'a> fmt::Display for WeekLink<'a> {
     }
 }
 
+impl<'a> fmt::Display for CorrectItem<'a> {
+    ghost use Rattle.std.specs.Prelude.{Some};
+    ghost use Rattle.pay_page.specs.Links.{correct_item};
+
+    ghost output = { λ it. Some (correct_item it.corrects it.account it.day it.label.now) };
+
+    fn fmt<W: fmt::Write>(&self, f: &mut fmt::Formatter<W>) -> fmt::Result {
+        if !self.corrects {
+            return Ok(());
+        }
+        let (account, day) = (self.account, self.day);
+        let label = Escaped(self.label);
+        write!(
+            f,
+            "<li><a href=\"/correct?account={account}&amp;day={day}\">{label}</a></li>\n"
+        )
+    }
+}
+
 impl<'a> fmt::Display for DayItem<'a> {
     ghost use Rattle.std.specs.Prelude.{Some};
     ghost use Rattle.pay_page.specs.Links.{day_item};
@@ -107,12 +135,24 @@ fn is_day(day: u32) -> bool
     FIRST_DAY <= day && day <= LAST_DAY
 }
 
-/// Adds the links from a day: to the start, to its week through that day, to the day before and to the day after.
+/// Adds the links from a day: to the start, to its week through that day, to the day before and to the day after; and to its corrections,
+/// where accounts may be corrected.
 #[tactic(auto, unfolding(crate::specs::Links::day_links))]
-pub fn push_day_links(text: &mut String, account: u32, day: u32) -> Result<(), AllocError>
+pub fn push_day_links(
+    text: &mut String,
+    corrects: bool,
+    account: u32,
+    day: u32,
+) -> Result<(), AllocError>
     requires { IsDay day }
-    ensures { OnOk result (string_bytes text.new ≡ string_bytes text.old ++ day_links account day) }
+    ensures { OnOk result (string_bytes text.new ≡ string_bytes text.old ++ day_links corrects account day) }
 {
+    let correct = CorrectItem {
+        corrects,
+        account,
+        day,
+        label: "Correct this day",
+    };
     let week = WeekItem(WeekLink {
         account,
         through: day,
@@ -130,17 +170,29 @@ pub fn push_day_links(text: &mut String, account: u32, day: u32) -> Result<(), A
     });
     write!(
         text,
-        "<nav>\n<ul>\n<li><a href=\"/\">Another account or day</a></li>\n{week}{before}{after}</ul>\n</nav>\n"
+        "<nav>\n<ul>\n<li><a href=\"/\">Another account or day</a></li>\n{week}{before}{after}{correct}</ul>\n</nav>\n"
     )?;
     Ok(())
 }
 
-/// Adds the links from a week: to the start, to the week before and to the week after, each through its Sunday.
+/// Adds the links from a week: to the start, to the week before and to the week after, each through its Sunday; and to the corrections of
+/// its last day, where accounts may be corrected.
 #[tactic(auto, unfolding(crate::specs::Links::week_links))]
-pub fn push_week_links(text: &mut String, account: u32, through: u32) -> Result<(), AllocError>
+pub fn push_week_links(
+    text: &mut String,
+    corrects: bool,
+    account: u32,
+    through: u32,
+) -> Result<(), AllocError>
     requires { IsDay through }
-    ensures { OnOk result (string_bytes text.new ≡ string_bytes text.old ++ week_links account through) }
+    ensures { OnOk result (string_bytes text.new ≡ string_bytes text.old ++ week_links corrects account through) }
 {
+    let correct = CorrectItem {
+        corrects,
+        account,
+        day: through,
+        label: "Correct its last day",
+    };
     let monday = monday(through);
     let before = WeekItem(WeekLink {
         account,
@@ -154,7 +206,7 @@ pub fn push_week_links(text: &mut String, account: u32, through: u32) -> Result<
     });
     write!(
         text,
-        "<nav>\n<ul>\n<li><a href=\"/\">Another account or day</a></li>\n{before}{after}</ul>\n</nav>\n"
+        "<nav>\n<ul>\n<li><a href=\"/\">Another account or day</a></li>\n{before}{after}{correct}</ul>\n</nav>\n"
     )?;
     Ok(())
 }

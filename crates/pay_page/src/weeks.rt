@@ -5,11 +5,13 @@ ghost use Rattle.pay_day.specs.Words.{IsDay, monday};
 ghost use Rattle.pay_dates.specs.declared.dated.DatedDay.{DatedDay};
 ghost use Rattle.pay_rules.specs.Prices.{days_through};
 ghost use Rattle.pay_page.specs.Headings.{week_title};
+ghost use Rattle.pay_page.specs.Posted.{posted_part};
 ghost use Rattle.pay_page.specs.WeekPages.{day_row, day_rows, days_part, week_page_text, week_sums};
 
 use crate::frame::{PageEnd, PageStart};
 use crate::headings::{NamedDay, WeekTitle};
 use crate::links::{DayLink, push_week_links};
+use crate::posted::{PostedWeek, push_posted};
 use crate::sums::{DueRows, SumsStart, WeekSumRows, push_credits, push_table_end};
 use pay_dates::{DatedDay, DatedWeek};
 use pay_day::monday;
@@ -164,10 +166,12 @@ fn title_of(alloc: Global, account: u32, through: u32) -> Result<String, AllocEr
 }
 
 /// The page of an account's week through a service day, counted from 1970-01-01, by the accepted taps and corrections of the
-/// account: what `explained_week` of `pay_explain` tells, as an HTML document, with links to its days and to the weeks beside
-/// it. An `Err` is out of memory.
+/// account: what `explained_week` of `pay_explain` tells, as an HTML document, with links to its days, to the weeks beside
+/// it and, where accounts may be corrected, to the corrections of that day; and with what was posted for it. An `Err` is out of memory.
 pub fn week_page(
     alloc: Global,
+    corrects: bool,
+    posted: &PostedWeek<'_>,
     editions: &Editions,
     taps: &TapSet,
     fixes: &FixSet,
@@ -175,7 +179,7 @@ pub fn week_page(
     through: u32,
 ) -> Result<String, AllocError>
     requires { IsDay through }
-    ensures { IfOk result (λ text. string_bytes text ≡ week_page_text editions.now (record { taps = taps.now; fixes = fixes.now }) account through) }
+    ensures { IfOk result (λ text. string_bytes text ≡ week_page_text corrects (posted_part posted.now.operators.now posted.now.version posted.now.posted.now) editions.now (record { taps = taps.now; fixes = fixes.now }) account through) }
 {
     let days = dated_days(alloc, through)?;
     let facts = week_facts(alloc, editions, taps, fixes, through)?;
@@ -186,9 +190,10 @@ pub fn week_page(
     let end = PageEnd;
     let mut text = String::new(alloc);
     write!(text, "{start}")?;
-    push_week_links(&mut text, account, through)?;
+    push_week_links(&mut text, corrects, account, through)?;
     push_days_part(alloc, &mut text, account, &days, &facts.days)?;
     push_sums(alloc, &mut text, &facts.reason, fixes, through)?;
+    push_posted(alloc, &mut text, posted)?;
     write!(text, "{end}")?;
     Ok(text)
 }
