@@ -3,3 +3,4 @@ pub mod Adding
 pub mod Items
 pub mod Documents
 pub mod Reading
+pub mod Signs

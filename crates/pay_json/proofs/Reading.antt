@@ -2,7 +2,7 @@
 use Rattle.std.proofs.Common.{sym, ap, ◌∙◌, arith}
 use Rattle.json.specs.Json.{document}
 use Rattle.json.specs.Tree.{HasNumbers, ItemsHaveNumbers, MembersHaveNumbers}
-use Rattle.json.proofs.Printed.Decimals.{IsNumber-decimal}
+use Rattle.json.proofs.Printed.Decimals.{IsNumber-decimal, IsNumber-signed_decimal}
 use Rattle.json.proofs.Printed.Trees.{document-print}
 use Rattle.serde_json.specs.Data.{unsigned, negative, float, Data, null, boolean, number, string, array, object, Items, no_items, item, Members, no_members, member}
 use Rattle.serde_json.specs.Written.{outline, items_outline, members_outline}
@@ -14,7 +14,7 @@ mutual
   has_numbers null short = tt
   has_numbers (boolean b) short = tt
   has_numbers (number (unsigned n)) short = IsNumber-decimal n short
-  has_numbers (number (negative z)) short = absurd short
+  has_numbers (number (negative z)) short = IsNumber-signed_decimal z short
   has_numbers (number (float x)) short = absurd short
   has_numbers (string text) short = tt
   has_numbers (array list) short = items_have list short

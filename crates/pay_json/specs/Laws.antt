@@ -1,5 +1,6 @@
 -- What is so of all that is written.
 use Rattle.std.specs.Prelude.{◌≡◌, ℕ, ◌^◌, ◌<◌, ◌≤◌, List, Some, ⊤}
+use lib.Signed.{mag}
 use Rattle.json.specs.Json as json
 use Rattle.json.specs.Json.{document}
 use Rattle.json.specs.Print.{quoted}
@@ -11,10 +12,10 @@ use Rattle.serde_json.specs.Written.{compact_text, outline}
 abbrev pub StringsReadBack : Type 0
 StringsReadBack = (text : List ℕ) → document (quoted text) ≡ Some (json.string text)
 
--- whole numbers below 2^64
+-- whole numbers below 2^64, and those below 0 of less than 2^63
 abbrev pub IsShort : Num → Type 0
 IsShort (unsigned n) = n < 2 ^ 64
-IsShort (negative z) = ⊥
+IsShort (negative z) = mag z < 2 ^ 63
 IsShort (float x) = ⊥
 
 abbrev mutual

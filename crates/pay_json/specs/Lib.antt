@@ -6,4 +6,5 @@ pub mod Journeys
 pub mod Corrections
 pub mod Days
 pub mod Weeks
+pub mod Posted
 pub mod Laws

@@ -3,7 +3,7 @@ use Rattle.std.specs.Prelude.{◌≡◌, ℕ, List, [], ◌∷◌, ◌++◌, map
 use Rattle.std.specs.Fmt.{digits}
 use Rattle.std.specs.List.{zip}
 use Rattle.json.specs.Print.{escape_byte, quoted}
-use Rattle.serde_json.specs.Data.{Data, string, object, array, Members}
+use Rattle.serde_json.specs.Data.{Data, string, object, array, Members, no_members}
 use Rattle.serde_json.specs.Written.{compact_text}
 use Rattle.pay_day.specs.Words.{monday}
 use Rattle.pay_dates.specs.Words.{date_text_of}
@@ -22,7 +22,7 @@ use Rattle.pay_why.specs.Words.{bus_journeys, counted_credits, due_reason, week_
 use Rattle.pay_explain.specs.declared.facts.PricedDay.{PricedDay}
 use Rattle.pay_explain.specs.Facts.{priced}
 use Rattle.pay_json.specs.Sums.{band_value, sums_value}
-use Rattle.pay_json.specs.Values.{all_joined, fields, items_of, whole}
+use Rattle.pay_json.specs.Values.{all_joined, fields, items_of, whole, with_fields}
 
 -- a day by its number and its date
 unfoldable pub dated_value : ℕ → List ℕ → Data
@@ -59,41 +59,41 @@ credits_joined credits = all_joined credit_of [] credits
 abbrev pub credits_value : List Fix → Data
 credits_value credits = array (items_of credit_of credits)
 
--- whose week it is, its days, what they come to, the Credits that count, what those come to, and what is due
-unfoldable pub week_of : ℕ → List ℕ → Data → Data → Data → CapReason → Data → DueReason → Data
-week_of account currency from through days reason credits due =
-    object (fields (
+-- whose week it is, its days, what they come to, the Credits that count, what those come to, what is due, and what was posted
+unfoldable pub week_of : ℕ → List ℕ → Data → Data → Data → CapReason → Data → DueReason → Members → Data
+week_of account currency from through days reason credits due posted =
+    object (with_fields (
     (codes "account", whole account) ∷ (codes "currency", string currency) ∷ (codes "from", from) ∷ (codes "through", through) ∷ (codes "days", days)
-    ∷ (codes "sums", sums_value reason) ∷ (codes "credits", credits) ∷ (codes "credits_pence", whole due.credits) ∷ (codes "due_pence", whole due.due) ∷ []))
+    ∷ (codes "sums", sums_value reason) ∷ (codes "credits", credits) ∷ (codes "credits_pence", whole due.credits) ∷ (codes "due_pence", whole due.due) ∷ []) posted)
 
 -- by the days' journeys, and the reason of the week
-abbrev pub week_by : List ℕ → FareEditions → List DayJourneys → CapReason → Fixes → ℕ → ℕ → Data
-week_by currency editions week reason fixes account through =
+abbrev pub week_by : Members → List ℕ → FareEditions → List DayJourneys → CapReason → Fixes → ℕ → ℕ → Data
+week_by posted currency editions week reason fixes account through =
     week_of account currency (dated_value (monday through) (date_text_of (monday through))) (dated_value through (date_text_of through))
-    (days_value (days_through through) (map (priced editions) week)) reason (credits_value (counted_credits fixes through)) (due_reason reason.price fixes through)
+    (days_value (days_through through) (map (priced editions) week)) reason (credits_value (counted_credits fixes through)) (due_reason reason.price fixes through) posted
 
 -- and by what an account has accepted
-abbrev pub week_value : List ℕ → FareEditions → Accepted → ℕ → ℕ → Data
-week_value currency editions accepted account through =
+abbrev pub week_value : Members → List ℕ → FareEditions → Accepted → ℕ → ℕ → Data
+week_value posted currency editions accepted account through =
     let list = rail_journeys editions (touches accepted) ++ bus_journeys editions (filter is_bus (touches accepted)) in
     let week = map (with_journeys list) (days_through through) in
-    week_by currency editions week (week_reason editions (monday through) week) accepted.fixes account through
+    week_by posted currency editions week (week_reason editions (monday through) week) accepted.fixes account through
 
--- its text, by those of its arrays
-unfoldable pub week_parts : CapReason → List ℕ → DueReason → List ℕ
-week_parts reason credits due =
+-- its text, by those of its arrays, and by its end
+unfoldable pub week_parts : CapReason → List ℕ → DueReason → List ℕ → List ℕ
+week_parts reason credits due end =
     codes ",\"sums\":"
     ++ (compact_text (sums_value reason)
-    ++ (codes ",\"credits\":" ++ (credits ++ (codes ",\"credits_pence\":" ++ (decimal due.credits ++ (codes ",\"due_pence\":" ++ (decimal due.due ++ codes "}")))))))
+    ++ (codes ",\"credits\":" ++ (credits ++ (codes ",\"credits_pence\":" ++ (decimal due.credits ++ (codes ",\"due_pence\":" ++ (decimal due.due ++ end)))))))
 
-unfoldable pub week_document : ℕ → List ℕ → Data → Data → List ℕ → CapReason → List ℕ → DueReason → List ℕ
-week_document account currency from through days reason credits due =
+unfoldable pub week_document : ℕ → List ℕ → Data → Data → List ℕ → CapReason → List ℕ → DueReason → List ℕ → List ℕ
+week_document account currency from through days reason credits due end =
     codes "{\"account\":"
     ++ (decimal account
     ++ (codes ",\"currency\":"
     ++ (quoted currency
     ++ (codes ",\"from\":"
-    ++ (compact_text from ++ (codes ",\"through\":" ++ (compact_text through ++ (codes ",\"days\":" ++ (days ++ week_parts reason credits due)))))))))
+    ++ (compact_text from ++ (codes ",\"through\":" ++ (compact_text through ++ (codes ",\"days\":" ++ (days ++ week_parts reason credits due end)))))))))
 
 -- ---- worked rows, of account 7 and the week from 2024-01-08
 
@@ -110,7 +110,7 @@ one_credit = refl
 less_a_pound : compact_text (
     week_of 7 (codes "GBP") (dated_value 19_730 (codes "2024-01-08")) (dated_value 19_730 (codes "2024-01-08"))
     (array (items_of (λ pence. Some (priced_members 19_730 (codes "2024-01-08") pence)) (0 ∷ []))) (record { uncapped = 0; band = None; maximum = 860; price = 860 })
-    (array (items_of (λ pence. Some (credit_members 3 2 19_730 (codes "2024-01-08") pence)) (100 ∷ []))) (record { price = 860; credits = 100; due = 760 })
+    (array (items_of (λ pence. Some (credit_members 3 2 19_730 (codes "2024-01-08") pence)) (100 ∷ []))) (record { price = 860; credits = 100; due = 760 }) no_members
     )
     ≡ codes "{\"account\":7,\"currency\":\"GBP\",\"from\":{\"day\":19730,\"date\":\"2024-01-08\"},\"through\":{\"day\":19730,\"date\":\"2024-01-08\"},"
     ++ (codes "\"days\":[{\"day\":19730,\"date\":\"2024-01-08\",\"price_pence\":0}],"

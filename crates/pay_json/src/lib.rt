@@ -8,6 +8,7 @@ mod journeys;
 pub mod laws;
 mod openapi;
 mod places;
+mod posted;
 mod strings;
 mod sums;
 mod weeks;

@@ -217,6 +217,28 @@ pub const OPENAPI: &str = r##"{
         },
         "additionalProperties": false
       },
+      "SignedPence": { "type": "integer", "description": "Below 0 what was given back." },
+      "Share": {
+        "type": "object",
+        "description": "What of a posting fell to an operator, with its name where the fare file has one.",
+        "required": ["operator", "amount_pence"],
+        "properties": { "operator": { "$ref": "#/components/schemas/Place" }, "amount_pence": { "$ref": "#/components/schemas/SignedPence" } },
+        "additionalProperties": false
+      },
+      "Posting": {
+        "type": "object",
+        "description": "What was charged or given back, through which day, and what was due of the week by then. Where more taps and corrections were accepted then than now, the ledger is ahead of the journal.",
+        "required": ["amount_pence", "through", "due_pence", "accepted_then", "accepted_now", "shares"],
+        "properties": {
+          "amount_pence": { "$ref": "#/components/schemas/SignedPence" },
+          "through": { "$ref": "#/components/schemas/DatedDay" },
+          "due_pence": { "$ref": "#/components/schemas/Pence" },
+          "accepted_then": { "type": "integer", "minimum": 0, "description": "How many taps and corrections of the account were accepted then." },
+          "accepted_now": { "type": "integer", "minimum": 0, "description": "How many are by the journals." },
+          "shares": { "type": "array", "items": { "$ref": "#/components/schemas/Share" } }
+        },
+        "additionalProperties": false
+      },
       "Week": {
         "type": "object",
         "required": ["account", "currency", "from", "through", "days", "sums", "credits", "credits_pence", "due_pence"],
@@ -229,7 +251,11 @@ pub const OPENAPI: &str = r##"{
           "sums": { "$ref": "#/components/schemas/Sums" },
           "credits": { "type": "array", "items": { "$ref": "#/components/schemas/CountedCredit" } },
           "credits_pence": { "$ref": "#/components/schemas/Pence" },
-          "due_pence": { "$ref": "#/components/schemas/Pence" }
+          "due_pence": { "$ref": "#/components/schemas/Pence" },
+          "posted": {
+            "description": "What was posted for the account and the week, in order, where pages are shown with a ledger; null where it cannot be read now.",
+            "oneOf": [{ "type": "array", "items": { "$ref": "#/components/schemas/Posting" } }, { "type": "null" }]
+          }
         },
         "additionalProperties": false
       }

@@ -6,9 +6,11 @@ use std::fmt;
 
 /// A place: `{"number":10,"name":"Abbey"}`, or `{"number":10}` where it has no name.
 #[derive(Clone, Copy)]
-struct Place<'a> {
-    names: &'a Names,
-    number: u16,
+pub(crate) struct Place<'a> {
+    /// The names of places.
+    pub names: &'a Names,
+    /// The number of the place.
+    pub number: u16,
 }
 
 /// Where a journey went: `{"kind":"Bus","route":{"number":50}}`.

@@ -5,10 +5,12 @@ ghost use Rattle.serde_json.specs.Written.{compact_text};
 ghost use Rattle.pay_day.specs.Words.{IsDay};
 ghost use Rattle.pay_dates.specs.declared.dated.DatedDay.{DatedDay};
 ghost use Rattle.pay_rules.specs.Prices.{days_through};
+ghost use Rattle.pay_json.specs.Posted.{posted_members};
 ghost use Rattle.pay_json.specs.Values.{joined};
 ghost use Rattle.pay_json.specs.Weeks.{credit_of, credits_joined, credits_value, days_joined, days_value, priced_day, week_value};
 
 use crate::arrays::{date_of, in_brackets, push_comma};
+use crate::posted::week_end;
 use crate::strings::Quoted;
 use crate::sums::Sums;
 use pay_dates::DatedDay;
@@ -16,6 +18,7 @@ use pay_day::monday;
 use pay_explain::{PricedDay, week_facts};
 use pay_fix::FixSet;
 use pay_money::Pence;
+use pay_page::PostedWeek;
 use pay_rules::{Fix, What};
 use pay_tables::Editions;
 use pay_taps::TapSet;
@@ -25,9 +28,11 @@ use std::fmt;
 
 /// A day with its date.
 #[derive(Clone, Copy)]
-struct Dated<'a> {
-    day: u32,
-    date: &'a str,
+pub(crate) struct Dated<'a> {
+    /// The day, counted from 1970-01-01.
+    pub day: u32,
+    /// Its date.
+    pub date: &'a str,
 }
 
 /// A day of the week, with what it costs without its maximum fares.
@@ -59,14 +64,16 @@ struct WeekDocument<'a> {
     reason: CapReason,
     credits: &'a str,
     due: DueReason,
+    end: &'a str,
 }
 
-/// The end of it, from its sums on.
+/// The last part of it, from its sums on.
 #[derive(Clone, Copy)]
 struct WeekParts<'a> {
     reason: CapReason,
     credits: &'a str,
     due: DueReason,
+    end: &'a str,
 }
 
 impl<'a> fmt::Display for Dated<'a> {
@@ -129,7 +136,7 @@ impl<'a> fmt::Display for WeekParts<'a> {
     ghost use Rattle.std.specs.Prelude.{Some};
     ghost use Rattle.pay_json.specs.Weeks.{week_parts};
 
-    ghost output = { λ it. Some (week_parts it.reason it.credits.now it.due) };
+    ghost output = { λ it. Some (week_parts it.reason it.credits.now it.due it.end.now) };
 
     #[tactic(auto, unfolding(crate::specs::Weeks::week_parts))]
     fn fmt<W: fmt::Write>(&self, f: &mut fmt::Formatter<W>) -> fmt::Result {
@@ -137,9 +144,10 @@ impl<'a> fmt::Display for WeekParts<'a> {
         let credits = self.credits;
         let credited = self.due.credits.pence();
         let due = self.due.due.pence();
+        let end = self.end;
         write!(
             f,
-            ",\"sums\":{sums},\"credits\":{credits},\"credits_pence\":{credited},\"due_pence\":{due}}}"
+            ",\"sums\":{sums},\"credits\":{credits},\"credits_pence\":{credited},\"due_pence\":{due}{end}"
         )
     }
 }
@@ -148,7 +156,7 @@ impl<'a> fmt::Display for WeekDocument<'a> {
     ghost use Rattle.std.specs.Prelude.{Some};
     ghost use Rattle.pay_json.specs.Weeks.{dated_value, week_document};
 
-    ghost output = { λ it. Some (week_document it.account it.currency.now (dated_value it.from it.from_date.now) (dated_value it.through it.through_date.now) it.days.now it.reason it.credits.now it.due) };
+    ghost output = { λ it. Some (week_document it.account it.currency.now (dated_value it.from it.from_date.now) (dated_value it.through it.through_date.now) it.days.now it.reason it.credits.now it.due it.end.now) };
 
     #[tactic(auto, unfolding(crate::specs::Weeks::week_document))]
     fn fmt<W: fmt::Write>(&self, f: &mut fmt::Formatter<W>) -> fmt::Result {
@@ -167,6 +175,7 @@ impl<'a> fmt::Display for WeekDocument<'a> {
             reason: self.reason,
             credits: self.credits,
             due: self.due,
+            end: self.end,
         };
         write!(
             f,
@@ -278,10 +287,11 @@ fn credits_array(alloc: Global, credits: &[Fix]) -> Result<String, AllocError>
 }
 
 /// Why an account's week through a service day, counted from 1970-01-01, costs what it costs, and what is due of it, by the
-/// accepted taps and corrections of the account: what `explained_week` of `pay_explain` tells, as an object of JSON, with
+/// accepted taps and corrections of the account: what `explained_week` of `pay_explain` tells, and what was posted for it, as an object of JSON, with
 /// amounts in whole hundredth parts of this currency. `OPENAPI` has its schema, `Week`. An `Err` is out of memory.
 pub fn week_json(
     alloc: Global,
+    posted: &PostedWeek<'_>,
     currency: &str,
     editions: &Editions,
     taps: &TapSet,
@@ -290,7 +300,7 @@ pub fn week_json(
     through: u32,
 ) -> Result<String, AllocError>
     requires { IsDay through }
-    ensures { IfOk result (λ text. string_bytes text ≡ compact_text (week_value currency.now editions.now (record { taps = taps.now; fixes = fixes.now }) account through)) }
+    ensures { IfOk result (λ text. string_bytes text ≡ compact_text (week_value (posted_members posted.now.operators.now posted.now.version posted.now.posted.now) currency.now editions.now (record { taps = taps.now; fixes = fixes.now }) account through)) }
 {
     let list = dated_days(alloc, through)?;
     let facts = week_facts(alloc, editions, taps, fixes, through)?;
@@ -302,6 +312,7 @@ pub fn week_json(
     let days = days_array(alloc, &list, &facts.days)?;
     let credits = credits_array(alloc, &counted)?;
     let due = due_reason(reason.price, fixes, through);
+    let end = week_end(alloc, posted)?;
     let first = first.as_str();
     let last = last.as_str();
     let days = days.as_str();
@@ -317,6 +328,7 @@ pub fn week_json(
         reason,
         credits,
         due,
+        end: end.as_str(),
     };
     let mut text = String::new(alloc);
     write!(text, "{document}")?;
