@@ -34,7 +34,7 @@ prices before after =
     ++ (codes "<th scope=\"col\">Difference</th></tr>\n</thead>\n<tbody>\n"
     ++ (price_row (codes "The price of this day") before.day after.day
     ++ (price_row (codes "Due of its week through this day") before.week after.week
-    ++ (codes "</tbody>\n</table>\n" ++ codes "<p>A Credit changes no price: it is taken off what is due.</p>\n")))))
+    ++ (codes "</tbody>\n</table>\n" ++ (codes "<p>A Credit changes no price: it is taken off what is due." ++ codes " What changes on other days is not shown here.</p>\n"))))))
 
 -- who corrects, and the line
 unfoldable pub head : List ℕ → FixLine → List ℕ

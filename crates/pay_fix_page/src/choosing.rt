@@ -73,8 +73,8 @@ fn push_tables(
 }
 
 /// The page on which a clerk chooses what to correct of an account, for a service day, by its accepted taps and corrections:
-/// each tap of the day with a form that takes it out, each correction with one that withdraws it, and forms for a credit and
-/// for a tap that is missing. An `Err` is out of memory.
+/// each tap of the day with a form that takes it out, each correction that does something with one that withdraws it, and
+/// forms for a credit and for a tap that is missing. An `Err` is out of memory.
 pub fn choices_page(
     alloc: Global,
     names: &Names,

@@ -6,7 +6,7 @@ ghost use Rattle.std.specs.String.{string_bytes};
 ghost use Rattle.pay_day.specs.Words.{IsDay};
 ghost use Rattle.pay_explain.specs.Corrections.{tap_of};
 ghost use Rattle.pay_rules.specs.NamedDay.{day_named};
-ghost use Rattle.pay_fix_page.specs.FixRows.{day_text, fix_line, fix_row, fix_rows, fixes_part, fixes_table, row_of};
+ghost use Rattle.pay_fix_page.specs.FixRows.{can_withdraw, cell_of, day_or, day_text, does_something, fix_line, fix_row, fix_rows, fixes_part, fixes_table, row_of};
 
 use crate::back_forms::{BackForm, TakenBack};
 use pay_dates::DatedDay;
@@ -16,40 +16,62 @@ use pay_html::Escaped;
 use pay_names::Names;
 use pay_rules::{Fix, Tap, What};
 use pay_taps::TapSet;
-use pay_why::fix_reason;
+use pay_why::{FixReason, fix_reason};
 use std::alloc::{AllocError, Global};
 use std::fmt;
 
-/// The row of a correction.
+/// What stands where a correction is withdrawn: a form, or `no` where that would change nothing.
 #[derive(Clone, Copy)]
-struct FixRow<'a> {
+struct WithdrawCell {
+    can: bool,
     account: u32,
     day: u32,
     staff: u16,
     seq: u32,
-    line: &'a str,
-    about: &'a str,
 }
 
-impl<'a> fmt::Display for FixRow<'a> {
+/// The row of a correction.
+#[derive(Clone, Copy)]
+struct FixRow<'a> {
+    line: &'a str,
+    about: &'a str,
+    cell: WithdrawCell,
+}
+
+impl fmt::Display for WithdrawCell {
     ghost use Rattle.std.specs.Prelude.{Some};
-    ghost use Rattle.pay_fix_page.specs.FixRows.{fix_row};
+    ghost use Rattle.pay_fix_page.specs.FixRows.{withdraw_cell};
 
-    ghost output = { λ it. Some (fix_row it.line.now it.about.now it.account it.day it.staff it.seq) };
+    ghost output = { λ it. Some (withdraw_cell it) };
 
-    #[tactic(auto, unfolding(crate::specs::FixRows::fix_row))]
     fn fmt<W: fmt::Write>(&self, f: &mut fmt::Formatter<W>) -> fmt::Result {
-        let line = Escaped(self.line);
-        let about = self.about;
         let form = BackForm {
             account: self.account,
             day: self.day,
             what: TakenBack::Fix(u32::from(self.staff), self.seq),
             button: "Withdraw..",
         };
+        if self.can {
+            write!(f, "\n{form}")
+        } else {
+            f.write_str("no")
+        }
+    }
+}
+
+impl<'a> fmt::Display for FixRow<'a> {
+    ghost use Rattle.std.specs.Prelude.{Some};
+    ghost use Rattle.pay_fix_page.specs.FixRows.{fix_row, withdraw_cell};
+
+    ghost output = { λ it. Some (fix_row it.line.now it.about.now (withdraw_cell it.cell)) };
+
+    #[tactic(auto, unfolding(crate::specs::FixRows::fix_row))]
+    fn fmt<W: fmt::Write>(&self, f: &mut fmt::Formatter<W>) -> fmt::Result {
+        let line = Escaped(self.line);
+        let (about, cell) = (self.about, self.cell);
         write!(
             f,
-            "<tr><th scope=\"row\">{line}</th><td>{about}</td><td>\n{form}</td></tr>\n"
+            "<tr><th scope=\"row\">{line}</th><td>{about}</td><td>{cell}</td></tr>\n"
         )
     }
 }
@@ -103,6 +125,49 @@ fn day_text(alloc: Global, day: Option<u32>) -> Result<String, AllocError>
     Ok(text)
 }
 
+/// The day whose prices are shown where a correction is withdrawn: the one that it is about, or else the page's.
+fn day_or(day: u32, named: Option<u32>) -> u32
+    ensures { result ≡ day_or day named }
+{
+    match named {
+        Some(named) => named,
+        None => day,
+    }
+}
+
+/// Whether to withdraw a correction changes anything now.
+fn can_withdraw(what: &What, reason: FixReason) -> bool
+    ensures { result ≡ can_withdraw what.now reason }
+{
+    match what {
+        What::Drop(..) => false,
+        _ => does_something(reason),
+    }
+}
+
+/// Whether a correction does something now.
+fn does_something(reason: FixReason) -> bool
+    ensures { result ≡ does_something reason }
+{
+    match reason {
+        FixReason::Stands => true,
+        FixReason::DroppedBy(..) | FixReason::NamesNothing => false,
+    }
+}
+
+/// What stands where an accepted correction is withdrawn, for a service day.
+fn cell_of(taps: &TapSet, fixes: &FixSet, account: u32, day: u32, fix: &Fix) -> WithdrawCell
+    ensures { result ≡ cell_of taps.now fixes.now account day fix.now }
+{
+    WithdrawCell {
+        can: can_withdraw(&fix.what, fix_reason(taps, fixes, fix)),
+        account,
+        day: day_or(day, day_named(taps, fixes, &fix.what)),
+        staff: fix.staff,
+        seq: fix.seq,
+    }
+}
+
 /// Adds the row of an accepted correction.
 fn push_row(
     alloc: Global,
@@ -119,12 +184,9 @@ fn push_row(
     let line = fix_line(alloc, names, taps, fixes, day, fix)?;
     let about = day_text(alloc, day_named(taps, fixes, &fix.what))?;
     let row = FixRow {
-        account,
-        day,
-        staff: fix.staff,
-        seq: fix.seq,
         line: line.as_str(),
         about: about.as_str(),
+        cell: cell_of(taps, fixes, account, day, fix),
     };
     write!(text, "{row}")?;
     Ok(())
@@ -175,7 +237,8 @@ fn push_any(text: &mut String, rows: &str) -> Result<(), AllocError>
     Ok(())
 }
 
-/// Adds the accepted corrections of an account, each with a form that withdraws it. They are told for a service day.
+/// Adds the accepted corrections of an account, each with a form that withdraws it where that changes anything. They are told for a
+/// service day.
 pub fn push_fixes(
     alloc: Global,
     text: &mut String,

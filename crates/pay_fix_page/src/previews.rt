@@ -152,7 +152,7 @@ impl fmt::Display for Prices {
             "<table>\n<caption>Before the correction, and after it</caption>\n<thead>\n\
 <tr><th scope=\"col\">Of</th><th scope=\"col\">Before</th><th scope=\"col\">After</th>\
 <th scope=\"col\">Difference</th></tr>\n</thead>\n<tbody>\n{day}{week}</tbody>\n</table>\n\
-<p>A Credit changes no price: it is taken off what is due.</p>\n"
+<p>A Credit changes no price: it is taken off what is due. What changes on other days is not shown here.</p>\n"
         )
     }
 }

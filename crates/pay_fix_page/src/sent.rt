@@ -1,7 +1,8 @@
 //! The pages of what came of a correction, and of one that would be refused.
-ghost use Rattle.std.specs.Prelude.{◌≡◌, IfOk};
+ghost use Rattle.std.specs.Prelude.{◌≡◌, nat_eq, IfOk};
+ghost use Rattle.std.specs.List.{starts_with};
 ghost use Rattle.std.specs.String.{string_bytes};
-ghost use Rattle.pay_fix_page.specs.Sent.{done_text, done_title, outcome_of, refusal_text, sentence_of};
+ghost use Rattle.pay_fix_page.specs.Sent.{advice_of, done_text, done_title, is_drop_line, outcome_of, refusal_text, sentence_of, service_advice_of};
 
 use crate::back_forms::{AccountFields, BackForm, TakenBack};
 use crate::fix_lines::FixLine;
@@ -56,12 +57,9 @@ struct NotSent<'a> {
     reply: &'a str,
 }
 
-/// The form that withdraws a correction, where it was accepted.
+/// The form that withdraws a correction, where it was accepted and is no Drop.
 #[derive(Clone, Copy)]
-struct Withdrawal<'a> {
-    outcome: Outcome,
-    form: BackForm<'a>,
-}
+struct Withdrawal<'a>(&'a Done<'a>);
 
 /// What came of a correction, by the reply to it.
 fn outcome_of(reply: &str) -> Outcome
@@ -92,6 +90,57 @@ fn sentence_of(outcome: Outcome) -> &'static str
     }
 }
 
+/// Whether a text begins so.
+fn begins(text: &str, start: &str) -> bool
+    ensures { result ≡ starts_with nat_eq text.now start.now }
+{
+    text.starts_with(start)
+}
+
+/// What else a clerk has to know of a refusal: what it means, and what to do.
+fn advice_of(reply: &str) -> &'static str
+    ensures { result.now ≡ advice_of reply.now }
+{
+    if begins(reply, "NO 1 ") {
+        " The time is too early, or too far ahead of the clock: give another time."
+    } else if begins(reply, "NO 15 ") {
+        " There is no such place, or its kind is another: give another place or kind."
+    } else if begins(reply, "NO 22 ") {
+        " Another correction of yours has this number, from the same second: go back and make a new preview."
+    } else if begins(reply, "NO 23 ") {
+        " The account has as many corrections as it can have: tell the operator."
+    } else {
+        service_advice_of(reply)
+    }
+}
+
+/// The same where the service could not take the correction now.
+#[tactic(auto, unfolding(crate::specs::Sent::service_advice_of))]
+fn service_advice_of(reply: &str) -> &'static str
+    ensures { result.now ≡ service_advice_of reply.now }
+{
+    if begins(reply, "NO 30 ") {
+        " The service has too much to do: wait, and reload this page to send the same form again."
+    } else if begins(reply, "NO 34 ") {
+        " No corrections are taken where the pages send them: tell the operator."
+    } else if begins(reply, "NO 50 ") {
+        " The service does not know these pages, or they have another greeting: tell the operator."
+    } else if begins(reply, "NO 52 ") {
+        " The service is late: reload this page to send the same form again, which is kept once."
+    } else if begins(reply, "NO 90 ") {
+        " The service had no memory: wait, and reload this page to send the same form again."
+    } else {
+        ""
+    }
+}
+
+/// Whether what a correction does is that it withdraws another, as its line says it.
+fn is_drop_line(what: &str) -> bool
+    ensures { result ≡ is_drop_line what.now }
+{
+    what.starts_with("DROP ")
+}
+
 impl<'a> fmt::Display for Told<'a> {
     ghost use Rattle.std.specs.Prelude.{Some};
     ghost use Rattle.pay_fix_page.specs.Sent.{told};
@@ -102,10 +151,10 @@ impl<'a> fmt::Display for Told<'a> {
     fn fmt<W: fmt::Write>(&self, f: &mut fmt::Formatter<W>) -> fmt::Result {
         let line = self.line;
         let reply = Escaped(self.reply);
-        let sentence = sentence_of(self.outcome);
+        let (sentence, advice) = (sentence_of(self.outcome), advice_of(self.reply));
         write!(
             f,
-            "<p>Sent: {line}</p>\n<p>Reply: <code>{reply}</code></p>\n<p>{sentence}</p>\n"
+            "<p>Sent: {line}</p>\n<p>Reply: <code>{reply}</code></p>\n<p>{sentence}{advice}</p>\n"
         )
     }
 }
@@ -120,24 +169,31 @@ impl<'a> fmt::Display for NotSent<'a> {
     fn fmt<W: fmt::Write>(&self, f: &mut fmt::Formatter<W>) -> fmt::Result {
         let line = self.line;
         let reply = Escaped(self.reply);
+        let advice = advice_of(self.reply);
         write!(
             f,
-            "<p>Not sent: {line}</p>\n<p>It would be refused: <code>{reply}</code></p>\n"
+            "<p>Not sent: {line}</p>\n<p>It would be refused: <code>{reply}</code>.{advice}</p>\n"
         )
     }
 }
 
 impl<'a> fmt::Display for Withdrawal<'a> {
     ghost use Rattle.std.specs.Prelude.{Some};
-    ghost use Rattle.pay_fix_page.specs.Sent.{withdrawal_if};
+    ghost use Rattle.pay_fix_page.specs.Sent.{withdrawal};
 
-    ghost output = { λ it. Some (withdrawal_if it.outcome it.form) };
+    ghost output = { λ it. Some (withdrawal it.0.now) };
 
     fn fmt<W: fmt::Write>(&self, f: &mut fmt::Formatter<W>) -> fmt::Result {
-        let form = self.form;
-        match self.outcome {
-            Outcome::Kept | Outcome::KeptBefore => write!(f, "{form}"),
-            Outcome::Unknown | Outcome::Refused => Ok(()),
+        let done = self.0;
+        let form = BackForm {
+            account: done.account,
+            day: done.day,
+            what: TakenBack::Fix(done.staff, done.seq),
+            button: "Withdraw it..",
+        };
+        match outcome_of(done.reply) {
+            Outcome::Kept | Outcome::KeptBefore if !is_drop_line(done.what) => write!(f, "{form}"),
+            _ => Ok(()),
         }
     }
 }
@@ -175,7 +231,7 @@ pub fn refusal_page(alloc: Global, refused: &Done<'_>) -> Result<String, AllocEr
     Ok(text)
 }
 
-/// The page of what came of a correction, with a form that withdraws it unless it was refused. An `Err` is out of memory.
+/// The page of what came of a correction, with a form that withdraws it where it was accepted and is no Drop. An `Err` is out of memory.
 pub fn done_page(alloc: Global, done: &Done<'_>) -> Result<String, AllocError>
     ensures { IfOk result (λ text. string_bytes text ≡ done_text done.now) }
 {
@@ -200,14 +256,7 @@ pub fn done_page(alloc: Global, done: &Done<'_>) -> Result<String, AllocError>
         day,
         label: "The day",
     };
-    let form = BackForm {
-        account,
-        day,
-        what: TakenBack::Fix(staff, seq),
-        button: "Withdraw it..",
-    };
-    let withdrawal = Withdrawal { outcome, form };
-    let end = PageEnd;
+    let (withdrawal, end) = (Withdrawal(done), PageEnd);
     let mut text = String::new(alloc);
     write!(text, "{start}{told}<p>{day_link}</p>\n{withdrawal}{end}")?;
     Ok(text)
