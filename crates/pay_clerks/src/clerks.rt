@@ -3,7 +3,7 @@ ghost use Rattle.std.specs.Prelude.{◌≡◌, ◌≢◌, ◌≤◌, Ok, Err, So
 ghost use Rattle.pay_clerks.specs.Lines.{clerk_of_row};
 ghost use Rattle.pay_clerks.specs.declared.limits.TheConstants.{MOST_LIMIT};
 ghost use Rattle.pay_clerks.specs.Files.{clerks_of_text, has_staff, with_clerk, with_line};
-ghost use Rattle.pay_clerks.specs.Found.{clerk_of, is_clerk};
+ghost use Rattle.pay_clerks.specs.Found.{clerk_of, has_number, is_clerk, staff_named};
 ghost use Rattle.pay_clerks.specs.declared.fault.ClerksFault.TheVariants.{Memory};
 
 use crate::clerk::Clerk;
@@ -92,6 +92,16 @@ impl Clerks {
         let (staff, secret) = parted(&room[..length])?;
         first_of(&self.clerks, staff, &Sha256::digest(secret))
     }
+
+    /// The number of the clerk whom such a value names, whatever its secret. None where it names no clerk.
+    pub fn named(&self, authorization: &[u8]) -> Option<u16>
+        ensures { result ≡ staff_named self.now authorization.now }
+    {
+        let mut room = [0; MOST_BYTES];
+        let length = decode(symbols_of(authorization)?, &mut room)?;
+        let (staff, _) = parted(&room[..length])?;
+        Some(first_named(&self.clerks, staff)?.staff())
+    }
 }
 
 /// The first clerk whose number a text is, and whose secret has this digest.
@@ -99,6 +109,13 @@ fn first_of<'a>(clerks: &'a [Clerk], staff: &[u8], digest: &[u8; 32]) -> Option<
     ensures { option_copied result ≡ find (is_clerk staff.now digest.now) clerks.now }
 {
     clerks.iter().find(|clerk| clerk.has_number(staff) && clerk.has_secret(digest))
+}
+
+/// The first clerk whose number a text is.
+fn first_named<'a>(clerks: &'a [Clerk], staff: &[u8]) -> Option<&'a Clerk>
+    ensures { option_copied result ≡ find (has_number staff.now) clerks.now }
+{
+    clerks.iter().find(|clerk| clerk.has_number(staff))
 }
 
 /// Whether one of the clerks has a staff number.
