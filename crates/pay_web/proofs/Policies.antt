@@ -1,5 +1,5 @@
 -- Each answer has the policy.
-use Rattle.std.proofs.Common.{◌≡◌, ◌++◌, ℕ, Bool, true, List, Option, None, Some, Result, Ok, Err, Contains, inl, inr, refl, arith, sym, subst}
+use Rattle.std.proofs.Common.{◌≡◌, ◌++◌, ℕ, Bool, true, false, List, Option, None, Some, Result, Ok, Err, Contains, inl, inr, refl, arith, sym, subst}
 use Rattle.std.specs.Arc.{arc_value}
 use Rattle.std.specs.String.{string_bytes}
 use Rattle.http.specs.Request.{body_of, head_of}
@@ -8,7 +8,7 @@ use Rattle.http1.specs.Fields.{Header}
 use Rattle.http_server.specs.Response.{IsResponse, fields_of}
 use Rattle.http_server.specs.declared.response.Response.{Response}
 use Rattle.pay_clerks.specs.Words.{ClerkOf}
-use Rattle.pay_web.specs.Answers.{IsAnswer, IsBadMethod, IsHealth, IsMetricsOrNot, IsShown, IsShownAs, IsUnavailable, html, json, text}
+use Rattle.pay_web.specs.Answers.{IsAnswer, IsBadFormMethod, IsBadMethod, IsHealth, IsMetricsOrNot, IsShown, IsShownAs, IsUnavailable, html, json, text}
 use Rattle.pay_web.specs.Fields.{fields, policy}
 use Rattle.pay_web.specs.Gates.{clerk_at}
 use Rattle.pay_web.specs.Posted.{IsAnswered, IsChoiceOr, IsClerkAnswer, IsMade, IsPosterAnswer, IsPreview, IsRefusedWish, IsShownWish, IsStranger, IsWishAnswer}
@@ -21,7 +21,7 @@ use Rattle.pay_web.specs.declared.question.Question.{Question}
 use Rattle.pay_web.specs.declared.question.Question.TheVariants as question
 use Rattle.pay_web.specs.declared.staff_site.StaffSite.{StaffSite}
 use Rattle.pay_web.specs.declared.wish.BadWish.{BadWish}
-use Rattle.pay_web.specs.declared.wish.BadWish.TheVariants.{BadForm, Stale, OverLimit}
+use Rattle.pay_web.specs.declared.wish.BadWish.TheVariants.{BadForm, Stale, OverLimit, NoSuchTime}
 use Rattle.pay_web.specs.declared.wish.Form.{Form}
 use Rattle.pay_web.specs.declared.wish.Form.TheVariants as form
 use Rattle.pay_web.specs.declared.wish.Wish.{Wish}
@@ -42,6 +42,10 @@ plain r code type body is = with_fields r type is.headers
 
 bad_method : (r : Response) → IsBadMethod r → Has r
 bad_method r is = with_more r text _ is.headers
+
+bad_form_method : (corrects : Bool) (r : Response) → IsBadFormMethod corrects r → Has r
+bad_form_method true r is = with_more r text _ is.headers
+bad_form_method false r is = bad_method r is
 
 unavailable : (r : Response) → IsUnavailable r → Has r
 unavailable r is = with_fields r text is.headers
@@ -66,6 +70,7 @@ refused : (r : Response) (why : BadWish) → IsRefusedWish why r → Has r
 refused r BadForm is = with_fields r text is.headers
 refused r Stale is = with_fields r text is.headers
 refused r OverLimit is = with_fields r text is.headers
+refused r NoSuchTime is = with_fields r text is.headers
 
 health : (r : Response) → IsHealth r → Has r
 health r (inl is) = with_fields r text is.headers
@@ -84,6 +89,7 @@ answer shows corrects r pages question.BadQuery is = with_fields r html is.heade
 answer shows corrects r pages question.BadJson is = with_fields r text is.headers
 answer shows corrects r pages question.Unknown is = with_fields r text is.headers
 answer shows corrects r pages question.BadMethod is = bad_method r is
+answer shows corrects r pages question.BadFormMethod is = bad_form_method corrects r is
 answer shows corrects r pages question.Misdirected is = with_fields r text is.headers
 
 module _ {P : Type 0} (known : Ghosts P) where

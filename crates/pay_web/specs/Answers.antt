@@ -1,5 +1,5 @@
 -- How a request is answered.
-use Rattle.std.specs.Prelude.{◌≡◌, ◌⊎◌, ◌++◌, ℕ, Bool, List, [], ◌∷◌, codes, false, Option, Some, None, Result, Ok, Err, String}
+use Rattle.std.specs.Prelude.{◌≡◌, ◌⊎◌, ◌++◌, ℕ, Bool, List, [], ◌∷◌, codes, true, false, Option, Some, None, Result, Ok, Err, String}
 use Rattle.std.specs.String.{string_bytes}
 use Rattle.http.specs.Request.{head_of}
 use Rattle.http.specs.declared.request.Request.{Request}
@@ -48,6 +48,11 @@ IsHealth response = IsLine 200 (codes "ready\n") response ⊎ IsUnavailable resp
 
 abbrev pub IsBadMethod : Response → Type 0
 IsBadMethod = IsResponse 405 (fields text ++ (codes "allow", codes "GET, HEAD") ∷ []) (codes "Pages are only read here.\n")
+
+-- where a form is posted, if accounts are corrected
+abbrev pub IsBadFormMethod : Bool → Response → Type 0
+IsBadFormMethod true response = IsResponse 405 (fields text ++ (codes "allow", codes "POST") ∷ []) (codes "Forms are posted here.\n") response
+IsBadFormMethod false response = IsBadMethod response
 
 abbrev pub IsUnknown : Response → Type 0
 IsUnknown response = IsLine 404 (codes "There is no such page.\n") response
@@ -103,6 +108,7 @@ module _ {P : Type 0} (known : Ghosts P) where
   IsAnswer corrects pages question.BadJson response = IsBadJson response
   IsAnswer corrects pages question.Unknown response = IsUnknown response
   IsAnswer corrects pages question.BadMethod response = IsBadMethod response
+  IsAnswer corrects pages question.BadFormMethod response = IsBadFormMethod corrects response
   IsAnswer corrects pages question.Misdirected response = IsMisdirected response
 
   -- a request is answered by what it asks for, and changes nothing

@@ -25,7 +25,7 @@ use Rattle.pay_web.specs.declared.pages.Pages as showing
 use Rattle.pay_web.specs.declared.question.Question.{Question}
 use Rattle.pay_web.specs.declared.staff_site.StaffSite.{StaffSite}
 use Rattle.pay_web.specs.declared.wish.BadWish.{BadWish}
-use Rattle.pay_web.specs.declared.wish.BadWish.TheVariants.{BadForm, Stale, OverLimit}
+use Rattle.pay_web.specs.declared.wish.BadWish.TheVariants.{BadForm, Stale, OverLimit, NoSuchTime}
 use Rattle.pay_web.specs.declared.wish.Form.{Form}
 use Rattle.pay_web.specs.declared.wish.Form.TheVariants as form
 use Rattle.pay_web.specs.declared.wish.Wish.{Wish}
@@ -41,15 +41,26 @@ IsStranger Foreign response = IsLine 403 (codes "This form does not come from th
 IsStranger OtherType response = IsLine 415 (codes "Only a form is read here.\n") response
 IsStranger Nobody response = IsAskedForSecret response
 
+-- what is said of a form that was made before the pages were started again
+abbrev pub stale : List ℕ
+stale =
+    codes "This form is from before the pages were started again, and was not sent now."
+    ++ (codes " If you have sent it before and got no answer, look at the account first: the correction may be there."
+    ++ codes " If it is not, begin again.\n")
+
 -- a form that asks for nothing
 abbrev pub IsRefusedWish : BadWish → Response → Type 0
 IsRefusedWish BadForm response = IsLine 400 (codes "This form names no correction.\n") response
-IsRefusedWish Stale response = IsLine 403 (codes "This form is of an earlier start of the page: begin again.\n") response
+IsRefusedWish Stale response = IsLine 403 stale response
 IsRefusedWish OverLimit response = IsLine 403 (codes "You may not give a Credit of so much.\n") response
+IsRefusedWish NoSuchTime response = IsLine 400 (codes "No clock shows this time on that day, since the clocks go forward. Give another time.\n") response
 
 -- what is said where it is not known whether a correction was kept
 abbrev pub lost : List ℕ
-lost = codes "The service did not answer: it is not known whether the correction was kept. Reload this page to send the same again: it is kept once.\n"
+lost =
+    codes "The service did not answer. The correction may have been kept, or not."
+    ++ (codes " Reload this page to send the same form again: it is kept once."
+    ++ codes " If the form is refused then, since the pages were started again, look at the account first: the correction may be there.\n")
 
 -- just that; or, where no memory was left for it, a fault of the server
 abbrev pub IsLost : Response → Type 0

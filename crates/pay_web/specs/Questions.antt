@@ -8,10 +8,12 @@ use Rattle.http_header.specs.HeaderMap.{get}
 use Rattle.http_uri.specs.declared.uri.Uri.{Uri}
 use Rattle.http_uri.specs.Uri.{uri_authority, uri_path, uri_query}
 use Rattle.pay_web.specs.Asked.{IsAsked, asked_by}
+use Rattle.pay_web.specs.Wishes.{form_at}
 use Rattle.pay_web.specs.declared.asked.Asked.{Asked}
 use Rattle.pay_web.specs.declared.hosts.Hosts.{Hosts}
 use Rattle.pay_web.specs.declared.question.Question.{Question}
 use Rattle.pay_web.specs.declared.question.Question.TheVariants as question
+use Rattle.pay_web.specs.declared.wish.Form.{Form}
 
 -- the page of an account that is asked for is that of one, and of a service day
 abbrev pub IsQuestion : Question → Type 0
@@ -80,9 +82,14 @@ path_question uri =
 abbrev pub only_reads : List ℕ → Bool
 only_reads method = bytes_eq method (codes "GET") || bytes_eq method (codes "HEAD")
 
+-- another method, where a form is posted or pages are read
+abbrev pub method_question : Option Form → Question
+method_question (Some form) = question.BadFormMethod
+method_question None = question.BadMethod
+
 -- the host is looked at first, then the method, then the path
 abbrev pub question_of : Hosts → Parts → Question
 question_of hosts head =
     if not (is_for hosts head) then question.Misdirected
-    else if not (only_reads head.method) then question.BadMethod
+    else if not (only_reads head.method) then method_question (form_at (uri_path head.uri))
     else path_question head.uri

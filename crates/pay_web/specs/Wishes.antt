@@ -1,5 +1,6 @@
 -- What a posted form asks for.
-use Rattle.std.specs.Prelude.{◌≡◌, ◌++◌, ℕ, List, codes, decimal, bytes_eq, Option, Some, None, if◌then◌else◌, option_map}
+use Rattle.std.specs.Prelude.{◌≡◌, ◌++◌, ℕ, List, codes, decimal, bytes_eq, Option, Some, None, Result, Ok, Err, String, if◌then◌else◌, option_map, refl}
+use Rattle.std.specs.String.{string_bytes}
 use Rattle.pay_clerks.specs.Words.{ClerkOf}
 use Rattle.pay_wire.specs.declared.command.SpelledFix.{SpelledFix}
 use Rattle.pay_web.specs.Asked.{IsAsked, value_of}
@@ -7,7 +8,8 @@ use Rattle.pay_web.specs.Corrections.{fix_by, is_over}
 use Rattle.pay_web.specs.Forms.{FixWords, FormWords, TapWords, fix_form, fix_words, form_of, tap_form}
 use Rattle.pay_web.specs.declared.asked.Asked.{Asked}
 use Rattle.pay_web.specs.declared.forms.FixForm.{FixForm}
-use Rattle.pay_web.specs.declared.wish.BadWish.TheVariants.{BadForm, Stale, OverLimit}
+use Rattle.pay_web.specs.declared.wish.BadWish.{BadWish}
+use Rattle.pay_web.specs.declared.wish.BadWish.TheVariants.{BadForm, Stale, OverLimit, NoSuchTime}
 use Rattle.pay_web.specs.declared.wish.Form.{Form}
 use Rattle.pay_web.specs.declared.wish.Form.TheVariants as form
 use Rattle.pay_web.specs.declared.wish.Wish.{Wish}
@@ -61,31 +63,45 @@ credit_said day pence = codes "CREDIT " ++ (decimal day ++ (codes " " ++ pence))
 abbrev pub fill_said : ℕ → TapWords → List ℕ
 fill_said utc words = codes "FILL " ++ (decimal utc ++ (codes " " ++ (words.place ++ (codes " " ++ words.kind))))
 
+-- what a form says, which is there or not
+abbrev pub said_or_bad : Option (List ℕ) → Result (List ℕ) BadWish
+said_or_bad (Some what) = Ok what
+said_or_bad None = Err BadForm
+
+-- a tap is added at an instant, if the clock shows its time at one
+abbrev pub fill_or_bad : TapWords → Option ℕ → Result (List ℕ) BadWish
+fill_or_bad words (Some utc) = Ok (fill_said utc words)
+fill_or_bad words None = Err NoSuchTime
+
+abbrev pub said_of : {Z : Type 0} → Result (String Z) BadWish → Result (List ℕ) BadWish
+said_of (Ok text) = Ok (string_bytes text)
+said_of (Err why) = Err why
+
 -- By which instants pages know: of a service day, and a local second of it.
 module _ {P : Type 0} (is_instant : P → ℕ → ℕ → Option ℕ → Type 0) (pages : P) where
   -- a tap that is added says the instant of its day and second; none is added where the form cannot be read, or there is no such instant
-  abbrev pub IsTapSaidBy : ℕ → Option TapWords → Option (List ℕ) → Type 0
-  IsTapSaidBy day None said = said ≡ None
-  IsTapSaidBy day (Some words) said = (utc : Option ℕ) × is_instant pages day words.second utc × (said ≡ option_map (λ at. fill_said at words) utc)
+  abbrev pub IsTapSaidBy : ℕ → Option TapWords → Result (List ℕ) BadWish → Type 0
+  IsTapSaidBy day None said = said ≡ Err BadForm
+  IsTapSaidBy day (Some words) said = (utc : Option ℕ) × is_instant pages day words.second utc × (said ≡ fill_or_bad words utc)
 
-  abbrev pub IsTapSaid : ℕ → List ℕ → Option (List ℕ) → Type 0
+  abbrev pub IsTapSaid : ℕ → List ℕ → Result (List ℕ) BadWish → Type 0
   IsTapSaid day rest = IsTapSaidBy day (tap_form rest)
 
   -- what a correction does, as the form of a path says it
-  abbrev pub IsSaidAt : Form → ℕ → List ℕ → Option (List ℕ) → Type 0
-  IsSaidAt form.Named day rest said = said ≡ value_of (codes "what=") rest
-  IsSaidAt form.Fix day rest said = said ≡ value_of (codes "what=") rest
-  IsSaidAt form.Credit day rest said = said ≡ option_map (credit_said day) (value_of (codes "pence=") rest)
+  abbrev pub IsSaidAt : Form → ℕ → List ℕ → Result (List ℕ) BadWish → Type 0
+  IsSaidAt form.Named day rest said = said ≡ said_or_bad (value_of (codes "what=") rest)
+  IsSaidAt form.Fix day rest said = said ≡ said_or_bad (value_of (codes "what=") rest)
+  IsSaidAt form.Credit day rest said = said ≡ said_or_bad (option_map (credit_said day) (value_of (codes "pence=") rest))
   IsSaidAt form.Tap day rest said = IsTapSaid day rest said
 
-  abbrev pub wish_of_said : ClerkOf → Asked → ℕ → Option (List ℕ) → Wish
-  wish_of_said clerk asked seq None = Nothing BadForm
-  wish_of_said clerk asked seq (Some what) = wish_by clerk.limit asked (fix_by clerk.staff seq asked.account what)
+  abbrev pub wish_of_said : ClerkOf → Asked → ℕ → Result (List ℕ) BadWish → Wish
+  wish_of_said clerk asked seq (Err why) = Nothing why
+  wish_of_said clerk asked seq (Ok what) = wish_by clerk.limit asked (fix_by clerk.staff seq asked.account what)
 
   -- a correction of the clerk, of some number
   pub record IsShown (clerk : ClerkOf) (form : Form) (asked : Asked) (rest : List ℕ) (wish : Wish) : Type 0 where
     pub seq : ℕ
-    pub said : Option (List ℕ)
+    pub said : Result (List ℕ) BadWish
     pub says : IsSaidAt form asked.day rest said
     pub is : wish ≡ wish_of_said clerk asked seq said
 
@@ -95,3 +111,8 @@ module _ {P : Type 0} (is_instant : P → ℕ → ℕ → Option ℕ → Type 0)
 
   abbrev pub IsPreviewWish : ClerkOf → Form → List ℕ → Wish → Type 0
   IsPreviewWish clerk form body wish = IsShownAfter clerk form (form_of body) wish
+
+-- ---- worked rows, of a form that is read, where no clock shows its time
+
+no_clock_shows_it : fill_or_bad (record { second = 5_400; place = codes "50"; kind = codes "BUS" }) None ≡ Err NoSuchTime
+no_clock_shows_it = refl

@@ -52,6 +52,9 @@ pub trait Corrects {
         requires { IsAsked asked }
         ensures { IfOk result (λ text. is_preview self.now (asked, fix.now) viewer.entry (string_bytes text)) };
 
+    /// Is told of a secret that is wrong: that of the clerk of this number, or else of a number that no clerk has.
+    fn note_wrong_secret(&self, staff: Option<u16>);
+
     /// The number that a correction gets which is made now.
     fn next_seq(&self) -> u32;
 

@@ -87,7 +87,7 @@ fn lose(response: &mut Response)
 {
     response.status = StatusCode::SERVICE_UNAVAILABLE;
     let text =
-        "The service did not answer: it is not known whether the correction was kept. Reload this page to send the same again: it is kept once.\n";
+        "The service did not answer. The correction may have been kept, or not. Reload this page to send the same form again: it is kept once. If the form is refused then, since the pages were started again, look at the account first: the correction may be there.\n";
     if response
         .body
         .push(Bytes::from_static(text.as_bytes()))
@@ -143,12 +143,17 @@ fn refuse_wish(why: BadWish, response: &mut Response) -> Result<(), AllocError>
         BadWish::Stale => tell(
             response,
             StatusCode::FORBIDDEN,
-            "This form is of an earlier start of the page: begin again.\n",
+            "This form is from before the pages were started again, and was not sent now. If you have sent it before and got no answer, look at the account first: the correction may be there. If it is not, begin again.\n",
         ),
         BadWish::OverLimit => tell(
             response,
             StatusCode::FORBIDDEN,
             "You may not give a Credit of so much.\n",
+        ),
+        BadWish::NoSuchTime => tell(
+            response,
+            StatusCode::BAD_REQUEST,
+            "No clock shows this time on that day, since the clocks go forward. Give another time.\n",
         ),
         BadWish::BadForm => tell(
             response,

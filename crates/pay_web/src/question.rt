@@ -3,10 +3,11 @@ ghost use Rattle.std.specs.Prelude.{◌≡◌, IfSome, option_copied};
 ghost use Rattle.http.specs.Request.{head_of};
 ghost use Rattle.http_uri.specs.Uri.{uri_query};
 ghost use Rattle.pay_web.specs.Asked.{IsAsked};
-ghost use Rattle.pay_web.specs.Questions.{IsQuestion, choice_of, choice_question, is_for, json_question, page_question, path_question, question_of};
+ghost use Rattle.pay_web.specs.Questions.{IsQuestion, choice_of, choice_question, is_for, json_question, method_question, page_question, path_question, question_of};
 
 use crate::asked::{Asked, asked_by};
 use crate::hosts::Hosts;
+use crate::wish::{Form, form_at};
 use bytes::Bytes;
 use http::header::HOST;
 use http::{Method, Request, Uri};
@@ -36,8 +37,10 @@ pub(crate) enum Question {
     BadJson,
     /// Another path.
     Unknown,
-    /// Another method than GET or HEAD.
+    /// Another method than GET or HEAD, where pages are read.
     BadMethod,
+    /// The same where a form is posted, if accounts are corrected.
+    BadFormMethod,
     /// A request to another host than this machine, as a page of another site can send one.
     Misdirected,
 }
@@ -51,9 +54,20 @@ pub(crate) fn question_of(hosts: &Hosts, request: &Request<Bytes>) -> Question
         return Question::Misdirected;
     }
     if *request.method() != Method::GET && *request.method() != Method::HEAD {
-        return Question::BadMethod;
+        return method_question(form_at(request.uri().path()));
     }
     path_question(request.uri())
+}
+
+/// Another method, at the path of a form or of none.
+fn method_question(form: Option<Form>) -> Question
+    ensures question { result ≡ method_question form }
+    ensures in_range { IsQuestion result }
+{
+    match form {
+        Some(_) => Question::BadFormMethod,
+        None => Question::BadMethod,
+    }
 }
 
 /// Whether a request is for one of these hosts, by its `Host` field, and in a form that names no other.

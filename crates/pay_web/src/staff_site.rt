@@ -7,7 +7,7 @@ ghost use Rattle.pay_web.specs.Posted.{IsFormAnswer, IsStaffAnswer, posted_form}
 ghost use Rattle.pay_web.specs.Questions.{IsQuestion};
 
 use crate::corrects::Corrects;
-use crate::gate::clerk_at;
+use crate::gate::{Stranger, clerk_at};
 use crate::hosts::Hosts;
 use crate::pages::Pages;
 use crate::posting::{Poster, answer_fix, answer_preview, refuse_stranger};
@@ -16,6 +16,7 @@ use crate::staff::Staff;
 use crate::telling::{HTML, answer_question, show};
 use crate::wish::{Form, form_at};
 use bytes::Bytes;
+use http::header::AUTHORIZATION;
 use http::{Method, Request};
 use http_server::{Response, Service};
 use std::alloc::{AllocError, Global};
@@ -72,7 +73,10 @@ impl<P: Pages + Corrects> StaffSite<P> {
     {
         let clerk = match clerk_at(&self.hosts, &self.staff.clerks, request) {
             Ok(clerk) => clerk,
-            Err(stranger) => return refuse_stranger(stranger, response),
+            Err(stranger) => {
+                self.note(stranger, request);
+                return refuse_stranger(stranger, response);
+            }
         };
         let token = self.staff.token.as_str();
         let poster = Poster { clerk, token };
@@ -80,6 +84,16 @@ impl<P: Pages + Corrects> StaffSite<P> {
         match form {
             Form::Fix => answer_fix(self.alloc, poster, &mut self.pages, body, response),
             _ => answer_preview(self.alloc, poster, &self.pages, form, body, response),
+        }
+    }
+
+    /// Notes a secret that is wrong. A browser sends none until it was asked for one.
+    fn note(&self, stranger: Stranger, request: &Request<Bytes>) {
+        if let Stranger::Nobody = stranger {
+            if let Some(value) = request.headers().get(AUTHORIZATION) {
+                let staff = self.staff.clerks.named(value.as_bytes());
+                self.pages.note_wrong_secret(staff);
+            }
         }
     }
 

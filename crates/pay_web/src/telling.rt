@@ -3,7 +3,7 @@ ghost use Rattle.std.specs.Prelude.{◌≡◌, IsTrue, OnOk};
 ghost use Rattle.http_header.specs.FieldValue.{is_visible_text};
 ghost use Rattle.http_server.specs.Response.{IsBlank};
 ghost use Rattle.pay_web.specs.Questions.{IsQuestion};
-ghost use Rattle.pay_web.specs.Answers.{IsAnswer, IsBadJson, IsBadMethod, IsDescription, IsForm, IsHealth, IsLine, IsMetrics, IsMisdirected, IsPageOrNot, IsStyle, IsUnavailable, IsUnknown};
+ghost use Rattle.pay_web.specs.Answers.{IsAnswer, IsBadFormMethod, IsBadJson, IsBadMethod, IsDescription, IsForm, IsHealth, IsLine, IsMetrics, IsMisdirected, IsPageOrNot, IsStyle, IsUnavailable, IsUnknown};
 
 use crate::fields::{add, answer};
 use crate::pages::{PageFault, Pages};
@@ -49,6 +49,7 @@ pub(crate) fn answer_question<P: Pages>(
         Question::BadQuery => show_form(alloc, corrects, response, StatusCode::BAD_REQUEST),
         Question::BadJson => refuse_query(response),
         Question::BadMethod => refuse_method(response),
+        Question::BadFormMethod => refuse_form_method(corrects, response),
         Question::Misdirected => misdirect(response),
     }
 }
@@ -193,6 +194,22 @@ fn refuse_method(response: &mut Response) -> Result<(), AllocError>
         "Pages are only read here.\n",
     )?;
     add(response, "allow", "GET, HEAD")
+}
+
+/// Refuses another method where a form is posted, if accounts are corrected.
+fn refuse_form_method(corrects: bool, response: &mut Response) -> Result<(), AllocError>
+    requires { IsBlank response.old }
+    ensures { OnOk result (IsBadFormMethod corrects response.new) }
+{
+    if !corrects {
+        return refuse_method(response);
+    }
+    tell(
+        response,
+        StatusCode::METHOD_NOT_ALLOWED,
+        "Forms are posted here.\n",
+    )?;
+    add(response, "allow", "POST")
 }
 
 /// Tells that a request is for another host.

@@ -1,8 +1,8 @@
 //! What a posted form asks for.
-ghost use Rattle.std.specs.Prelude.{◌≡◌, option_map, IfOk};
+ghost use Rattle.std.specs.Prelude.{◌≡◌, IfOk};
 ghost use Rattle.std.specs.String.{string_bytes};
 ghost use Rattle.pay_web.specs.Asked.{IsAsked};
-ghost use Rattle.pay_web.specs.Wishes.{IsPreviewWish, IsSaidAt, IsTapSaid, IsWish, credit_said, fix_wish, form_at, wish_by, wish_of_form};
+ghost use Rattle.pay_web.specs.Wishes.{IsPreviewWish, IsSaidAt, IsTapSaid, IsWish, credit_said, fix_wish, form_at, said_of, wish_by, wish_of_form};
 
 use crate::asked::{Asked, value_of};
 use crate::correction::{fix_by, is_over};
@@ -43,6 +43,8 @@ pub(crate) enum BadWish {
     Stale,
     /// A Credit of more than the clerk may give.
     OverLimit,
+    /// A tap at a local time that the clock does not show on its day.
+    NoSuchTime,
 }
 
 /// The form that is posted to a path.
@@ -125,32 +127,32 @@ pub(crate) fn preview_wish<P: Corrects>(
     };
     let seq = pages.next_seq();
     match what_said(alloc, pages, form, asked.day, rest)? {
-        Some(what) => {
+        Ok(what) => {
             let fix = fix_by(alloc, clerk.staff(), seq, asked.account, what.as_str())?;
             Ok(wish_by(clerk.limit(), asked, fix))
         }
-        None => Ok(Wish::Nothing(BadWish::BadForm)),
+        Err(why) => Ok(Wish::Nothing(why)),
     }
 }
 
-/// What a correction does, as a form says it, in the words of a line.
+/// What a correction does, as a form says it, in the words of a line; or why it says nothing.
 fn what_said<P: Corrects>(
     alloc: Global,
     pages: &P,
     form: Form,
     day: u32,
     rest: &str,
-) -> Result<Option<String>, AllocError>
-    ensures { IfOk result (λ what. IsSaidAt P.is_instant pages.now form day rest.now (option_map string_bytes what)) }
+) -> Result<Result<String, BadWish>, AllocError>
+    ensures { IfOk result (λ what. IsSaidAt P.is_instant pages.now form day rest.now (said_of what)) }
 {
     match form {
         Form::Named | Form::Fix => match value_of(rest, "what=") {
-            Some(what) => Ok(Some(String::from_str(alloc, what)?)),
-            None => Ok(None),
+            Some(what) => Ok(Ok(String::from_str(alloc, what)?)),
+            None => Ok(Err(BadWish::BadForm)),
         },
         Form::Credit => match value_of(rest, "pence=") {
-            Some(pence) => Ok(Some(credit_said(alloc, day, pence)?)),
-            None => Ok(None),
+            Some(pence) => Ok(Ok(credit_said(alloc, day, pence)?)),
+            None => Ok(Err(BadWish::BadForm)),
         },
         Form::Tap => tap_said(alloc, pages, day, rest),
     }
@@ -171,17 +173,17 @@ fn tap_said<P: Corrects>(
     pages: &P,
     day: u32,
     rest: &str,
-) -> Result<Option<String>, AllocError>
-    ensures { IfOk result (λ what. IsTapSaid P.is_instant pages.now day rest.now (option_map string_bytes what)) }
+) -> Result<Result<String, BadWish>, AllocError>
+    ensures { IfOk result (λ what. IsTapSaid P.is_instant pages.now day rest.now (said_of what)) }
 {
     let Some(form) = tap_form(rest) else {
-        return Ok(None);
+        return Ok(Err(BadWish::BadForm));
     };
     let Some(utc) = pages.instant(day, form.second) else {
-        return Ok(None);
+        return Ok(Err(BadWish::NoSuchTime));
     };
     let (place, kind) = (form.place, form.kind);
     let mut what = String::new(alloc);
     write!(what, "FILL {utc} {place} {kind}")?;
-    Ok(Some(what))
+    Ok(Ok(what))
 }
