@@ -8,3 +8,4 @@ pub mod OwnLines
 pub mod Pages
 pub mod PostedLines
 pub mod Postings
+pub mod Statements

@@ -110,7 +110,7 @@ fn with_posted(
 }
 
 /// Writes a text of whole lines and flushes the writer. Where that fails, it has taken a front of the text.
-fn write_text<W: KnownWriter>(writer: &mut W, text: &[u8]) -> Result<(), Fault>
+pub fn write_text<W: KnownWriter>(writer: &mut W, text: &[u8]) -> Result<(), Fault>
     ensures ok { OnOk result (Appends (W.contents writer.old) (W.contents writer.new) text.now) }
     ensures err { OnErr result (AppendsFront (W.contents writer.old) (W.contents writer.new) text.now) }
     ensures fault { IfErr result (λ fault. fault ≡ Fault.Output) }
