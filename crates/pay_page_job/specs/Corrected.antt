@@ -69,9 +69,13 @@ pub record IsDoneBy (asked : Asked) (fix : SpelledFix) (came : List ℕ) (done :
   pub seq : done.seq ≡ fix.seq
   pub reply : done.reply.now ≡ came
 
--- the page that says what came of it
+-- the page that says what came of it, by the reply
+abbrev pub IsDoneWith : Asked × SpelledFix → List ℕ → List ℕ → Type 0
+IsDoneWith made reply text = (done : Done) × IsDoneBy made.0 made.1 reply done × (text ≡ done_text done)
+
+-- by what a socket gave, of which no contract speaks
 abbrev pub IsDonePage : Asked × SpelledFix → List ℕ → Type 0
-IsDonePage made text = (reply : List ℕ) × (done : Done) × IsDoneBy made.0 made.1 reply done × (text ≡ done_text done)
+IsDonePage made text = (reply : List ℕ) × IsDoneWith made reply text
 
 -- a refusal, as a service replies it
 abbrev pub refusal_reply : Refusal → List ℕ

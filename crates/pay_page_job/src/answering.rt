@@ -2,6 +2,8 @@
 
 use crate::control::StaffPort;
 use crate::journals::Journals;
+use crate::looking::LooksUp;
+use crate::offers::Offers;
 use crate::patient::{Patient, SILENCE};
 use http_server::{Config, Connection, Service, serve};
 use pay_clerks::Clerks;
@@ -21,7 +23,7 @@ use std::time::Duration;
 use std::{io, thread};
 
 /// How many browsers are answered at a time.
-const THREADS: usize = 4;
+const THREADS: usize = 16;
 
 /// For how many milliseconds the journals are left alone, and nothing is tried where no connection can be taken.
 const PAUSE: u64 = 50;
@@ -34,6 +36,12 @@ const TOKEN_BYTES: usize = 16;
 
 /// The most bytes of a body.
 const MOST_BODY: usize = 4 * 1024;
+
+/// The system gives no random bytes.
+const NO_RANDOM: Fault = Fault::Refused {
+    number: 36,
+    name: "NoRandom",
+};
 
 /// What pages are made of, and where they are shown.
 #[derive(Drop)]
@@ -64,7 +72,7 @@ impl Shared {
     fn new<R: RandomSource>(rt: &R, alloc: Global, clerks: Clerks) -> Result<Shared, Fault> {
         let mut drawn = [0; TOKEN_BYTES];
         if rt.fill_bytes(&mut drawn).is_err() {
-            return Err(Fault::CannotListen);
+            return Err(NO_RANDOM);
         }
         Ok(Shared {
             clerks: Arc::new(alloc, clerks).map_err(AllocError::from)?,
@@ -82,8 +90,8 @@ impl Shared {
 }
 
 /// Answers browsers until the program is ended. A fare file or a zone that is refused is a fault before anything else, and so are journals
-/// that cannot be read then.
-pub fn serve_pages<R>(rt: R, given: Given) -> Result<(), Fault>
+/// that cannot be read then. What was posted is told by a ledger, if there is one.
+pub fn serve_pages<R, L: LooksUp>(rt: R, given: Given, ledger: Option<&L>) -> Result<(), Fault>
 where
     R: Net<Listener = TcpListener, Stream = TcpStream>
         + Threads
@@ -110,7 +118,11 @@ where
         Some(clerks) => Some(Shared::new(&rt, rt.alloc(), clerks)?),
         None => None,
     };
-    let journals = Journals::new(rt, fares, zone, paths, service)?;
+    let offers = Offers {
+        corrects: shared.is_some(),
+        has_ledger: ledger.is_some(),
+    };
+    let journals = Journals::new(rt, fares, zone, paths, service, offers, THREADS)?;
     if !journals.read_on() {
         return Err(Fault::Journal);
     }
@@ -118,14 +130,14 @@ where
         return Err(Fault::CannotListen);
     };
     let Ok(keys) = RandomState::new(&rt) else {
-        return Err(Fault::CannotListen);
+        return Err(NO_RANDOM);
     };
     let mut has_any = false;
-    for _ in 0..THREADS {
+    for place in 0..THREADS {
         let Ok(listener) = listener.try_clone() else {
             return Err(Fault::CannotListen);
         };
-        let (alloc, journals) = (rt.alloc(), journals.again()?);
+        let (alloc, journals) = (rt.alloc(), journals.again(place)?);
         let is_begun = match &shared {
             Some(shared) => {
                 let site = StaffSite::new(alloc, port, shared.staff(alloc)?, journals)?;
@@ -150,7 +162,10 @@ where
     );
     for _ in rt.forever() {
         let _ = journals.read_on();
-        thread::sleep(&rt, Duration::from_millis(PAUSE));
+        if let Some(ledger) = ledger {
+            journals.answer(ledger);
+        }
+        journals.pause(Duration::from_millis(PAUSE));
     }
     Ok(())
 }

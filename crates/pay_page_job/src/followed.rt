@@ -5,15 +5,17 @@ ghost use Rattle.pay_account_lines.specs.Words.{own_lines, IsRefused};
 ghost use Rattle.pay_day.specs.Words.{IsDay};
 ghost use Rattle.pay_explain_job.specs.Accounts.{given};
 ghost use Rattle.pay_explain_job.specs.Corrections.{IsChoice, IsOwed};
-ghost use Rattle.pay_explain_job.specs.Explain.{query, IsNotExplained};
-ghost use Rattle.pay_explain_job.specs.Pages.{IsJson, IsPaged};
-ghost use Rattle.pay_page_job.specs.Followed.{IsReadOn};
+ghost use Rattle.pay_explain_job.specs.Explain.{IsNotExplained};
+ghost use Rattle.pay_explain_job.specs.OwnLines.{own_given};
+ghost use Rattle.pay_explain_job.specs.Pages.{beside, IsJson, IsPaged};
+ghost use Rattle.pay_page_job.specs.Followed.{query_of, IsReadOn};
 ghost use Rattle.pay_web.specs.Words.{IsAsked};
 
 use pay_account_lines::{AccountLines, LineFault};
 use pay_explain_job::{choice_by_texts, json_by_texts, owed_by_texts, page_by_texts};
 use pay_fix_page::Owed;
 use pay_jobs::Fault;
+use pay_page::Posted;
 use pay_web::Asked;
 use std::alloc::{AllocError, Global};
 
@@ -60,10 +62,18 @@ impl Followed {
     }
 
     /// The page of what is asked for, by a fare file, a zone, and the account's own lines. A line that is not accepted is told by the
-    /// number of its journal, from 0 on, and its own among the account's.
-    pub fn page(&self, fares: &str, zone: &str, asked: Asked) -> Result<String, Fault>
+    /// number of its journal, from 0 on, and its own among the account's. It links to corrections where accounts may be corrected, and that of
+    /// a week tells what was posted for it.
+    pub fn page(
+        &self,
+        fares: &str,
+        zone: &str,
+        asked: Asked,
+        corrects: bool,
+        posted: &Posted,
+    ) -> Result<String, Fault>
         requires { IsDay asked.day }
-        ensures page { IfOk result (λ text. IsPaged (given fares.now zone.now (each (own_lines asked.account) self.now.journals.items)) (query asked.account asked.day asked.week) (string_bytes text)) }
+        ensures page { IfOk result (λ text. IsPaged (own_given fares.now zone.now asked.account self.now.journals.items) (query_of asked) (beside corrects posted.now) (string_bytes text)) }
         ensures fails { IfErr result (IsNotExplained (given fares.now zone.now (each (own_lines asked.account) self.now.journals.items))) }
     {
         let Asked { account, day, week } = asked;
@@ -76,13 +86,21 @@ impl Followed {
             account,
             day,
             week,
+            corrects,
+            posted,
         )
     }
 
     /// The same for programs.
-    pub fn json(&self, fares: &str, zone: &str, asked: Asked) -> Result<String, Fault>
+    pub fn json(
+        &self,
+        fares: &str,
+        zone: &str,
+        asked: Asked,
+        posted: &Posted,
+    ) -> Result<String, Fault>
         requires { IsDay asked.day }
-        ensures json { IfOk result (λ text. IsJson (given fares.now zone.now (each (own_lines asked.account) self.now.journals.items)) (query asked.account asked.day asked.week) (string_bytes text)) }
+        ensures json { IfOk result (λ text. IsJson (own_given fares.now zone.now asked.account self.now.journals.items) (query_of asked) posted.now (string_bytes text)) }
         ensures fails { IfErr result (IsNotExplained (given fares.now zone.now (each (own_lines asked.account) self.now.journals.items))) }
     {
         let Asked { account, day, week } = asked;
@@ -95,6 +113,7 @@ impl Followed {
             account,
             day,
             week,
+            posted,
         )
     }
 

@@ -1,21 +1,30 @@
 //! The journals in files, which are read on again and again, and the pages of what was read.
 ghost use Rattle.std.specs.Prelude.{◌≡◌, Ok, IfOk};
+ghost use Rattle.pay_explain_job.specs.Pages.{beside};
 ghost use Rattle.std.specs.Arc.{arc_value};
 ghost use Rattle.std.specs.String.{string_bytes};
 ghost use Rattle.pay_page_job.specs.Corrected.{IsChoiceOf, IsPreviewPage};
 ghost use Rattle.pay_page_job.specs.Counted.{IsCounted};
-ghost use Rattle.pay_page_job.specs.Followed.{IsJsonOf, IsPageOf};
+ghost use Rattle.pay_page_job.specs.Followed.{IsJsonOf, IsLookedUp, IsPageOf, IsShownJson, IsShownPage};
 ghost use Rattle.pay_web.specs.Words.{IsAsked};
 
+use crate::belonging::of_week;
 use crate::clock::instant_by_text;
 use crate::control::{AT_ONCE, StaffPort, UNTIL_LATE, ask};
+use crate::desk::{Desk, PostedQuestion};
 use crate::followed::Followed;
+use crate::looking::LooksUp;
+use crate::offers::Offers;
 use crate::reading::{CHUNK, read_after};
 use crate::shown::{done_by, preview_in};
+use crate::waiting::Waiting;
 use pay_account_lines::LineFault;
+use pay_day::monday;
 use pay_jobs::Fault;
 use pay_log::{Level, Limiter, Log};
 use pay_metrics::{DOWN, metrics_of};
+use pay_page::Posted;
+use pay_rules::Postings;
 use pay_web::{Asked, Corrects, PageFault, Pages, Viewer};
 use pay_wire::{SpelledCommand, SpelledFix, command_line};
 use std::alloc::{AllocError, Global};
@@ -23,6 +32,8 @@ use std::fs::File;
 use std::net::{Net, TcpStream};
 use std::rt::{Clock, Files};
 use std::sync::{Arc, Mutex, Wait};
+use std::thread;
+use std::time::Duration;
 
 /// A journal in a file, and how many bytes of it were read.
 #[derive(Drop)]
@@ -58,6 +69,9 @@ struct Sources {
     zone: String,
     reading: Mutex<Reading>,
     service: Option<StaffPort>,
+    waiting: Mutex<Waiting>,
+    offers: Offers,
+    desk: Desk,
 }
 
 /// The journals that pages are made of, for a thread.
@@ -66,7 +80,10 @@ pub(crate) struct Journals<R> {
     rt: R,
     alloc: Global,
     faults: Limiter,
+    secrets: Limiter,
     sources: Arc<Sources>,
+    /// Its place at the desk where it is asked what was posted.
+    place: usize,
 }
 
 impl Reading {
@@ -173,40 +190,88 @@ impl Reading {
 }
 
 impl<R: Files<File = File> + Clock + Wait + Log + AllocGlobal + Copy> Journals<R> {
-    /// The journals in the files at these paths. Nothing is read yet.
+    /// The journals in the files at these paths, for so many threads. Nothing is read yet.
     pub fn new(
         rt: R,
         fares: String,
         zone: String,
         paths: Vec<String>,
         service: Option<StaffPort>,
+        offers: Offers,
+        threads: usize,
     ) -> Result<Journals<R>, AllocError> {
         let alloc = rt.alloc();
-        let faults = Limiter::new(alloc)?;
+        let (faults, secrets) = (Limiter::new(alloc)?, Limiter::new(alloc)?);
         let reading = Mutex::new(Reading::new(alloc, paths)?);
+        let desk = Desk::new(alloc, threads)?;
         let sources = Sources {
             fares,
             zone,
             reading,
             service,
+            waiting: Mutex::new(Waiting { count: 0 }),
+            offers,
+            desk,
         };
         let sources = Arc::new(alloc, sources).map_err(AllocError::from)?;
         Ok(Journals {
             rt,
             alloc,
             faults,
+            secrets,
             sources,
+            place: threads,
         })
     }
 
-    /// The same for another thread.
-    pub fn again(&self) -> Result<Journals<R>, AllocError> {
+    /// The same for the thread of this number, from 0 on.
+    pub fn again(&self, place: usize) -> Result<Journals<R>, AllocError> {
         Ok(Journals {
             rt: self.rt,
             alloc: self.alloc,
             faults: self.faults.again()?,
+            secrets: self.secrets.again()?,
             sources: Arc::clone(&self.sources)?,
+            place,
         })
+    }
+
+    /// Leaves the journals alone for a while, or until something is asked about postings.
+    pub fn pause(&self, pause: Duration) {
+        if self.sources.offers.has_ledger {
+            self.sources.desk.wait(&self.rt, pause);
+        } else {
+            thread::sleep(&self.rt, pause);
+        }
+    }
+
+    /// Answers what was asked about postings. What is not known is said.
+    pub fn answer<L: LooksUp>(&self, ledger: &L) {
+        for place in 0..self.sources.desk.count(&self.rt) {
+            if let Some((ticket, question)) = self.sources.desk.question(&self.rt, place) {
+                let answer = self.looked_up(ledger, question);
+                self.sources.desk.tell(&self.rt, place, ticket, answer);
+            }
+        }
+    }
+
+    /// What was posted, if that can be told.
+    fn looked_up<L: LooksUp>(&self, ledger: &L, question: PostedQuestion) -> Option<Postings> {
+        match ledger.postings(question.account, question.week) {
+            Ok(postings) => Some(postings),
+            Err(Fault::Refused { number, name }) => {
+                self.faults.say(
+                    &self.rt,
+                    Level::Error,
+                    format_args!("farebox: cannot read ledger: {number} {name}"),
+                );
+                None
+            }
+            Err(fault) => {
+                self.faults.say(&self.rt, Level::Error, fault);
+                None
+            }
+        }
     }
 
     /// Reads all of them on. Why not, is said, and then there are no pages until they are.
@@ -253,24 +318,67 @@ impl<R: Clock + Wait + Log + Copy> Journals<R> {
         }
     }
 
-    /// The page of what is asked for, by what was read.
-    fn page_now(&self, asked: Asked) -> Result<String, Fault>
+    /// What was posted for the week that is asked for, where a ledger says it.
+    fn posted(&self, asked: Asked) -> Posted
         requires { IsAsked asked }
-        ensures { IfOk result (λ text. IsPageOf (string_bytes (arc_value self.now.sources).fares) (string_bytes (arc_value self.now.sources).zone) asked (string_bytes text)) }
+        ensures { IsLookedUp (arc_value self.now.sources).offers asked result }
+    {
+        let sources = &*self.sources;
+        if sources.offers.has_ledger && asked.week {
+            let (account, week) = (asked.account, monday(asked.day));
+            let question = PostedQuestion { account, week };
+            of_week(
+                account,
+                week,
+                sources.desk.ask(&self.rt, self.place, question),
+            )
+        } else {
+            Posted::NoLedger
+        }
+    }
+
+    /// The page of what is asked for, by what was read and what was posted.
+    fn page_by(&self, asked: Asked, posted: &Posted) -> Result<String, Fault>
+        requires { IsAsked asked }
+        ensures { IfOk result (λ text. IsPageOf (string_bytes (arc_value self.now.sources).fares) (string_bytes (arc_value self.now.sources).zone)
+            (beside (arc_value self.now.sources).offers.corrects posted.now) asked (string_bytes text)) }
     {
         let reading = self.sources.reading.lock(&self.rt);
         let Sources { fares, zone, .. } = &*self.sources;
-        reading.followed.page(fares.as_str(), zone.as_str(), asked)
+        let corrects = self.sources.offers.corrects;
+        reading
+            .followed
+            .page(fares.as_str(), zone.as_str(), asked, corrects, posted)
+    }
+
+    /// The page of what is asked for.
+    fn page_now(&self, asked: Asked) -> Result<String, Fault>
+        requires { IsAsked asked }
+        ensures { IfOk result (λ text. IsShownPage (string_bytes (arc_value self.now.sources).fares) (string_bytes (arc_value self.now.sources).zone) (arc_value self.now.sources).offers asked (string_bytes text)) }
+    {
+        let posted = self.posted(asked);
+        self.page_by(asked, &posted)
+    }
+
+    /// The same for programs, by what was read and what was posted.
+    fn json_by(&self, asked: Asked, posted: &Posted) -> Result<String, Fault>
+        requires { IsAsked asked }
+        ensures { IfOk result (λ text. IsJsonOf (string_bytes (arc_value self.now.sources).fares) (string_bytes (arc_value self.now.sources).zone) posted.now asked (string_bytes text)) }
+    {
+        let reading = self.sources.reading.lock(&self.rt);
+        let Sources { fares, zone, .. } = &*self.sources;
+        reading
+            .followed
+            .json(fares.as_str(), zone.as_str(), asked, posted)
     }
 
     /// The same for programs.
     fn json_now(&self, asked: Asked) -> Result<String, Fault>
         requires { IsAsked asked }
-        ensures { IfOk result (λ text. IsJsonOf (string_bytes (arc_value self.now.sources).fares) (string_bytes (arc_value self.now.sources).zone) asked (string_bytes text)) }
+        ensures { IfOk result (λ text. IsShownJson (string_bytes (arc_value self.now.sources).fares) (string_bytes (arc_value self.now.sources).zone) (arc_value self.now.sources).offers asked (string_bytes text)) }
     {
-        let reading = self.sources.reading.lock(&self.rt);
-        let Sources { fares, zone, .. } = &*self.sources;
-        reading.followed.json(fares.as_str(), zone.as_str(), asked)
+        let posted = self.posted(asked);
+        self.json_by(asked, &posted)
     }
 
     /// The page of what can be corrected, by what was read.
@@ -309,9 +417,21 @@ impl<R: Clock + Wait + Log + Copy> Journals<R> {
 }
 
 impl<R: Net<Stream = TcpStream> + Clock + Wait + Log + Copy> Journals<R> {
-    /// Sends a line to the service, and gives its reply. Why there is none, is said.
+    /// Sends a line to the service, and gives its reply. Why there is none, is said. Where too many wait for it, nothing is sent.
     fn reply_to(&self, service: &StaffPort, line: &[u8], seconds: u64) -> Option<String> {
-        match ask(&self.rt, self.alloc, service, line, seconds) {
+        let may = self.sources.waiting.lock(&self.rt).begin();
+        if !may {
+            let port = service.port;
+            self.faults.say(
+                &self.rt,
+                Level::Error,
+                format_args!("farebox: too many wait for the service at 127.0.0.1:{port}"),
+            );
+            return None;
+        }
+        let came = ask(&self.rt, self.alloc, service, line, seconds);
+        self.sources.waiting.lock(&self.rt).end();
+        match came {
             Ok(reply) => Some(reply),
             Err(error) => {
                 let port = service.port;
@@ -322,6 +442,20 @@ impl<R: Net<Stream = TcpStream> + Clock + Wait + Log + Copy> Journals<R> {
                 );
                 None
             }
+        }
+    }
+
+    /// Says where a correction was no line for whoever listens there: a service that takes them knows it.
+    fn say_if_unknown(&self, service: &StaffPort, reply: &str) {
+        if reply.starts_with("NO 50 ") {
+            let port = service.port;
+            self.faults.say(
+                &self.rt,
+                Level::Error,
+                format_args!(
+                    "farebox: no correction is taken at 127.0.0.1:{port}: another greeting, or no service"
+                ),
+            );
         }
     }
 
@@ -350,11 +484,11 @@ impl<R: Net<Stream = TcpStream> + Clock + Wait + Log + Copy> Pages for Journals<
     ghost use Rattle.std.specs.Arc.{arc_value};
     ghost use Rattle.std.specs.String.{string_bytes};
     ghost use Rattle.pay_page_job.specs.Counted.{AreMetrics};
-    ghost use Rattle.pay_page_job.specs.Followed.{IsJsonOf, IsPageOf};
+    ghost use Rattle.pay_page_job.specs.Followed.{IsShownJson, IsShownPage};
 
-    ghost is_page = { λ it. IsPageOf (string_bytes (arc_value it.sources).fares) (string_bytes (arc_value it.sources).zone) };
+    ghost is_page = { λ it. IsShownPage (string_bytes (arc_value it.sources).fares) (string_bytes (arc_value it.sources).zone) (arc_value it.sources).offers };
 
-    ghost is_json = { λ it. IsJsonOf (string_bytes (arc_value it.sources).fares) (string_bytes (arc_value it.sources).zone) };
+    ghost is_json = { λ it. IsShownJson (string_bytes (arc_value it.sources).fares) (string_bytes (arc_value it.sources).zone) (arc_value it.sources).offers };
 
     ghost is_metrics = { λ it. AreMetrics (arc_value it.sources).service };
 
@@ -420,6 +554,22 @@ impl<R: Net<Stream = TcpStream> + Clock + Wait + Log + Copy> Corrects for Journa
         self.page_or_say(asked.account, self.preview_now(asked, fix, viewer))
     }
 
+    /// Says so, without what was typed: a number that is no clerk's may be a secret in the wrong field.
+    fn note_wrong_secret(&self, staff: Option<u16>) {
+        match staff {
+            Some(staff) => self.secrets.say(
+                &self.rt,
+                Level::Warning,
+                format_args!("farebox: a wrong secret of staff {staff}"),
+            ),
+            None => self.secrets.say(
+                &self.rt,
+                Level::Warning,
+                "farebox: a secret with the number of no clerk",
+            ),
+        }
+    }
+
     /// The second of now: a clerk's corrections have different ones, as they are made one after another.
     fn next_seq(&self) -> u32 {
         match self.rt.since_1970() {
@@ -438,7 +588,10 @@ impl<R: Net<Stream = TcpStream> + Clock + Wait + Log + Copy> Corrects for Journa
         };
         let line = command_line(&SpelledCommand::Fix(*fix));
         match self.reply_to(service, line.as_slice(), UNTIL_LATE) {
-            Some(reply) => Ok(done_by(self.alloc, asked, fix, reply.as_str())?),
+            Some(reply) => {
+                self.say_if_unknown(service, reply.as_str());
+                Ok(done_by(self.alloc, asked, fix, reply.as_str())?)
+            }
             None => Err(PageFault::Unavailable),
         }
     }

@@ -1,7 +1,7 @@
 //! What a clerk is shown before a correction is sent, and after it.
 ghost use Rattle.std.specs.Prelude.{◌≡◌, IfOk};
 ghost use Rattle.std.specs.String.{string_bytes};
-ghost use Rattle.pay_page_job.specs.Corrected.{IsDoneBy, IsDonePage, IsPreviewPage, IsRefusalOf, IsRefusalPage, IsShownPage, what_words};
+ghost use Rattle.pay_page_job.specs.Corrected.{IsDoneBy, IsDoneWith, IsPreviewPage, IsRefusalOf, IsRefusalPage, IsShownPage, what_words};
 ghost use Rattle.pay_web.specs.Words.{IsAsked};
 
 use crate::followed::Followed;
@@ -103,7 +103,7 @@ pub(crate) fn done_by(
     fix: &SpelledFix,
     reply: &str,
 ) -> Result<String, AllocError>
-    ensures { IfOk result (λ text. IsDonePage (asked, fix.now) (string_bytes text)) }
+    ensures { IfOk result (λ text. IsDoneWith (asked, fix.now) reply.now (string_bytes text)) }
 {
     let what = what_words(alloc, &fix.what)?;
     done_page(alloc, &done_of(asked, fix, what.as_str(), reply))
