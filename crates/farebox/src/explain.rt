@@ -1,16 +1,16 @@
 //! The job `explain`.
 ghost use Rattle.pay_jobs.specs.Words.{IsDay};
 
+use crate::missing::refuse_missing;
 use pay_explain_job::{explain_texts, explain_with_ledger};
 use pay_files::{Ledgers, fares_text, path_of, report_line, texts_at};
-use pay_jobs::{Alter, Fault, FileFault, Ledger};
+use pay_jobs::{Alter, Fault, Ledger};
 use pay_log::Log;
 use pay_words::ExplainWords;
 use std::fs::File;
-use std::io::ErrorKind;
+use std::io;
 use std::process::ExitCode;
 use std::rt::Files;
-use std::{fs, io};
 
 /// Why an account's day was charged, or its week through that day, by the journal at a path or by those in a folder, and what a ledger has
 /// of that week, to standard output. No line is added, and nothing is posted.
@@ -82,16 +82,4 @@ where
     );
     rt.close(ledger);
     done
-}
-
-/// Refuses a ledger that is not there, or has a byte at most, as an audit does: its file would be made.
-fn refuse_missing<R: Files>(rt: &R, path: &str) -> Result<(), Fault> {
-    let is_missing = match fs::metadata(rt, path) {
-        Ok(file) => file.len() <= 1,
-        Err(error) => error.kind() == ErrorKind::NotFound,
-    };
-    if is_missing {
-        return Err(Fault::File(FileFault::NoLedger));
-    }
-    Ok(())
 }

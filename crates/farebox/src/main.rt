@@ -2,9 +2,11 @@
 #![tactic(auto)]
 
 mod explain;
+mod missing;
 mod page;
 mod program;
 mod serve;
+mod statement;
 mod stay;
 
 use pay_log::{Level, Log};

@@ -1,10 +1,12 @@
 //! The job `page`.
 
+use crate::missing::refuse_missing;
 use pay_clerks::Clerks;
-use pay_files::{fares_text, path_in, print_warnings};
-use pay_jobs::{Fault, FileFault};
+use pay_files::{Ledgers, fares_text, path_in, print_warnings};
+use pay_jobs::{Alter, Fault, FileFault, Ledger};
 use pay_log::{Level, Log};
-use pay_page_job::{Given, StaffPort, serve_pages};
+use pay_page_job::{Given, LooksUp, StaffPort, serve_pages};
+use pay_rules::Postings;
 use pay_words::PageWords;
 use std::alloc::AllocError;
 use std::fs;
@@ -19,13 +21,47 @@ use std::thread::Threads;
 /// How many journals a service has.
 const JOURNALS: u64 = 16;
 
-/// Shows why accounts were charged, by the journal at a path or those in a folder, until the program is ended.
-pub fn show_pages<R>(rt: R, words: &PageWords<'_>) -> Result<ExitCode, Fault>
+/// A ledger in the file at a path. It is opened for each question, so a copy that takes its place is seen at once.
+#[derive(Clone, Copy)]
+struct LedgerAt<'a, R> {
+    rt: &'a R,
+    path: &'a str,
+}
+
+impl<'a, R, S: Alter + Drop> LooksUp for LedgerAt<'a, R>
+where
+    R: Files<File = File> + Ledgers<InFile = Ledger<S>>,
+{
+    fn postings(&self, account: u32, week: u32) -> Result<Postings, Fault> {
+        postings_in(self.rt, self.path, account, week)
+    }
+}
+
+/// What was posted for an account and a week, by the ledger in the file at a path.
+fn postings_in<R, S: Alter + Drop>(
+    rt: &R,
+    path: &str,
+    account: u32,
+    week: u32,
+) -> Result<Postings, Fault>
+where
+    R: Files<File = File> + Ledgers<InFile = Ledger<S>>,
+{
+    refuse_missing(rt, path)?;
+    let mut ledger = rt.existing_ledger(path)?;
+    let postings = ledger.postings(account, week);
+    rt.close(ledger);
+    Ok(postings?)
+}
+
+/// Shows why accounts were charged, by the journal at a path or those in a folder, and what a ledger has of it, until the program is ended.
+pub fn show_pages<R, S: Alter + Drop>(rt: R, words: &PageWords<'_>) -> Result<ExitCode, Fault>
 where
     R: Net<Listener = TcpListener, Stream = TcpStream>
         + Threads
         + Wait
         + Files<File = File>
+        + Ledgers<InFile = Ledger<S>>
         + Clock
         + RandomSource
         + Log
@@ -46,6 +82,10 @@ where
         }
         None => None,
     };
+    let ledger = match words.ledger {
+        Some(path) => Some(ledger_at(&rt, path)?),
+        None => None,
+    };
     let given = Given {
         fares,
         zone,
@@ -54,8 +94,19 @@ where
         service: service_of(&rt, words)?,
         clerks,
     };
-    serve_pages(rt, given)?;
+    serve_pages(rt, given, ledger.as_ref())?;
     Ok(ExitCode::SUCCESS)
+}
+
+/// The ledger in the file at a path, if there is one that can be read.
+fn ledger_at<'a, R, S: Alter + Drop>(rt: &'a R, path: &'a str) -> Result<LedgerAt<'a, R>, Fault>
+where
+    R: Files<File = File> + Ledgers<InFile = Ledger<S>>,
+{
+    refuse_missing(rt, path)?;
+    let ledger = rt.existing_ledger(path)?;
+    rt.close(ledger);
+    Ok(LedgerAt { rt, path })
 }
 
 /// Where a service is asked, if it is.

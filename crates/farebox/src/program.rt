@@ -4,10 +4,10 @@ ghost use Rattle.farebox.specs.NoJob.{IsTextOrFault};
 use crate::explain::explain_account;
 use crate::page::show_pages;
 use crate::serve::serve_sessions;
+use crate::statement::state_account;
 use crate::stay::stay_on;
 use pay_files::{
     Ledgers, audit_files, check_fares, memory_or, rebuild_lines, replay_journals, run_session,
-    write_statement,
 };
 use pay_jobs::{Alter, Fault, Ledger};
 use pay_log::Log;
@@ -122,7 +122,7 @@ where
     match read_words(rt.alloc(), words) {
         Ok(Job::Run(words)) => run_session(&rt, &words),
         Ok(Job::Check(words)) => check_fares(&rt, &words),
-        Ok(Job::Statement(words)) => write_statement(&rt, &words),
+        Ok(Job::Statement(words)) => state_account(&rt, &words),
         Ok(Job::Explain(words)) => explain_account(&rt, &words),
         Ok(Job::Page(words)) => show_pages(rt, &words),
         Ok(Job::Replay(words)) => replay_journals(&rt, &words),
