@@ -3,7 +3,7 @@ use crate::given::{MAY_BE_REFUSED, MONDAY, WAS_REFUSED, expect_same, sample, tap
 use pay_day::Moment;
 use pay_fix::FixSet;
 use pay_names::Names;
-use pay_page::{day_page, form_page, week_page};
+use pay_page::{Posted, PostedWeek, day_page, form_page, week_page};
 use pay_rules::{Credit, Fix, Kind, Tap, What};
 use pay_taps::TapSet;
 use std::alloc::AllocError;
@@ -65,6 +65,15 @@ fn expect_page<R: Abort + AllocGlobal>(
     }
 }
 
+/// What was posted, beside journals without a line.
+fn posted_week<'a>(posted: &'a Posted, operators: &'a Names) -> PostedWeek<'a> {
+    PostedWeek {
+        posted,
+        operators,
+        version: 0,
+    }
+}
+
 #[test]
 fn shows_a_day_and_its_week(rt: HostRuntime) {
     let alloc = rt.alloc();
@@ -76,9 +85,19 @@ fn shows_a_day_and_its_week(rt: HostRuntime) {
     let mut fixes = FixSet::new(alloc);
     let _ = fixes.add(credit(&rt)).expect(&rt, "memory");
     tell(&rt, MAY_BE_REFUSED);
-    let day = day_page(alloc, &names, &editions, &taps, &fixes, 7, MONDAY);
+    let day = day_page(alloc, true, &names, &editions, &taps, &fixes, 7, MONDAY);
     expect_page(&rt, day, DAY);
-    let week = week_page(alloc, &editions, &taps, &fixes, 7, MONDAY + 1);
+    let unknown = Posted::Unknown;
+    let week = week_page(
+        alloc,
+        false,
+        &posted_week(&unknown, &names),
+        &editions,
+        &taps,
+        &fixes,
+        7,
+        MONDAY + 1,
+    );
     expect_page(&rt, week, WEEK);
     expect_page(&rt, form_page(alloc, false), FORM);
     expect_page(&rt, form_page(alloc, true), CORRECTING_FORM);
@@ -102,6 +121,7 @@ const DAY: &str = "<!DOCTYPE html>
 <li><a href=\"/week?account=7&amp;day=19730\">The week through this day</a></li>
 <li><a href=\"/day?account=7&amp;day=19729\">The day before</a></li>
 <li><a href=\"/day?account=7&amp;day=19731\">The day after</a></li>
+<li><a href=\"/correct?account=7&amp;day=19730\">Correct this day</a></li>
 </ul>
 </nav>
 <svg viewBox=\"0 0 1040 150\" role=\"img\" aria-labelledby=\"picture-title picture-desc\">
@@ -256,6 +276,8 @@ const WEEK: &str = "<!DOCTYPE html>
 <tr><th scope=\"row\">Due</th><td class=\"amount\">18.10</td></tr>
 </tbody>
 </table>
+<h2>Posted</h2>
+<p>What was posted is not known now.</p>
 </main>
 </body>
 </html>
