@@ -270,10 +270,15 @@ def sessions():
     yield "a fare file with caps, checked", CHECK, b"", allowed({0: COUNTED_ONE})
     yield "a fare file with an edition, checked", CHECK_TWO, b"", allowed({0: COUNTED_TWO})
     memory = "90 Memory"
-    late = allowed_of_fault("warning: no holiday after day 19731", COUNTED_TWO, ("", memory), (COUNTED_TWO, memory))
+    late = allowed_of_fault(
+        "warning: no holiday after day 19731, 2024-01-09", COUNTED_TWO, ("", memory), (COUNTED_TWO, memory)
+    )
     yield "a fare file with an edition, and its warning", [*CHECK_TWO, "--lint"], b"", late
     other = allowed_of_fault(
-        "other fares on day 19731: rules.bus, days through 19730 agree", "", ("", memory), ("", f"old fares: {memory}")
+        "other fares on day 19731, 2024-01-09: rules.bus; days agree through day 19730, 2024-01-08",
+        "",
+        ("", memory),
+        ("", f"old fares: {memory}"),
     )
     yield "a fare file beside an old one", [*CHECK_TWO, "--against", SAMPLE], b"", other
     yield "the statement of a journey", STATEMENT, RAIL, allowed({0: PAGE})

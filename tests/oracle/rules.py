@@ -1,6 +1,7 @@
 """The replies and statements that docs/RULES.md gives, priced from scratch by a table of fares. The clock is London's
 in winter, which is UTC."""
 
+import datetime
 import itertools
 from typing import NamedTuple
 
@@ -169,6 +170,8 @@ class Journey(NamedTuple):
     # Where each of its legs began; of a lone tap and of a boarding the one place.
     origins: tuple
     span: tuple = BY_BUS
+    # The instant of its last tap, if it has a second.
+    last: int = None
 
 
 def service_day(utc):
@@ -262,9 +265,9 @@ def rail_journey(fares, run):
     if len(taps) == 2 and first.place == last.place:
         return Journey(
             first.utc, "SAME", first.place, last.place, 0 if last.utc - first.utc <= fares.same_free else fare, origins,
-            zones,
+            zones, last.utc,
         )
-    return Journey(first.utc, "RAIL", first.place, last.place, fare, origins, zones)
+    return Journey(first.utc, "RAIL", first.place, last.place, fare, origins, zones, last.utc)
 
 
 def boardings(fares, taps):
@@ -552,6 +555,51 @@ def statement(fares, accounts, number, day):
             name = band.name if band and covers(band, it.span) else "-"
             rows.append([str(its_day), it.kind, str(it.start), str(it.end), clock(it.utc), str(it.fare), name])
     return rows
+
+
+LONG_COLUMNS = ["date", "kind", "from", "from_name", "to", "to_name", "start", "end", "amount", "posted"]
+
+
+def money(pence):
+    """An amount in units, with a hyphen where it is below 0."""
+    return f"{'-' if pence < 0 else ''}{abs(pence) // 100}.{abs(pence) % 100:02}"
+
+
+def date(day):
+    return str(datetime.date(1970, 1, 1) + datetime.timedelta(day))
+
+
+def sum_row(day, kind, amount="", posted=""):
+    """A row of a long statement that is of no journey."""
+    return [date(day), kind, *[""] * 6, amount, posted]
+
+
+def journey_row(names, day, it):
+    """A journey's."""
+    places = [text for place in (it.start, it.end) for text in (str(place or ""), names.get(place, ""))]
+    times = ["" if utc is None else clock(utc) for utc in (it.utc, it.last)]
+    return [date(day), it.kind, *places, *times, money(it.fare), ""]
+
+
+def long_statement(fares, account, day, postings=(), names={}):
+    """The rows of the long statement of the week of a day, with what was posted for it."""
+    days = of_week(fares, account, day)
+    rows, total = [LONG_COLUMNS], 0
+    for its_day, made in days.items():
+        rows += [journey_row(names, its_day, it) for it in made]
+        price = day_price(fares, its_day, made)
+        off = sum(it.fare for it in made) - price
+        rows += [sum_row(its_day, "CAP", money(-off))] if off else []
+        total += price
+    price, sunday = week_price(fares, days), max(days)
+    rows += [sum_row(sunday, "WEEKCAP", money(price - total))] if price < total else []
+    credits = sorted(
+        (fix.number, fix.words) for fix in standing(account) if fix.form == "CREDIT" and fix.words[0] in days
+    )
+    rows += [sum_row(its_day, "CREDIT", money(-pence)) for _, (its_day, pence) in credits]
+    left = sum(pence for _, (_, pence) in credits) - price
+    rows += [sum_row(sunday, "UNUSED", money(left))] if left > 0 else []
+    return rows + [sum_row(it.through, "POSTED", posted=money(it.amount)) for it in postings]
 
 
 def line(command):

@@ -47,18 +47,19 @@ def listening(port):
     return f"farebox: pages at http://{HOST}:{port}/\n".encode()
 
 
-def page_words(journal, port, fares=SAMPLE, control=None, staff=None, greeting=None):
-    """The words of such a program, where a service is asked or not, with a greeting or none, and clerks correct or do not."""
-    options = [("--control", control), ("--staff", staff), ("--greeting", greeting)]
+def page_words(journal, port, fares=SAMPLE, control=None, staff=None, greeting=None, ledger=None):
+    """The words of such a program, where a service is asked or not, with a greeting or none, clerks correct or do not, and
+    a ledger says what was posted or none does."""
+    options = [("--control", control), ("--staff", staff), ("--greeting", greeting), ("--ledger", ledger)]
     given = [word for name, value in options if value is not None for word in (name, str(value))]
     return ["page", fares, LONDON, "--journal", journal, "--port", str(port), *given]
 
 
 @contextlib.contextmanager
-def shown(journal, fares=SAMPLE, control=None, staff=None, greeting=None):
+def shown(journal, fares=SAMPLE, control=None, staff=None, greeting=None, ledger=None):
     """A program that shows pages, once it answers, and its port."""
     port = free_ports(1)
-    with started(page_words(journal, port, fares, control, staff, greeting), stdin=subprocess.DEVNULL) as ran:
+    with started(page_words(journal, port, fares, control, staff, greeting, ledger), stdin=subprocess.DEVNULL) as ran:
         said = heard(ran.stderr, len(listening(port)))
         if said != listening(port):
             raise AssertionError(f"{said} in place of {listening(port)}")

@@ -20,6 +20,19 @@ def stated(lines, account, day, fares=SAMPLE, zone=LONDON):
     return run(["statement", fares, zone, str(account), str(day)], in_lines(lines))
 
 
+LONG_HEADER = "date,kind,from,from_name,to,to_name,start,end,amount,posted"
+
+
+def long_rows(*rows):
+    """What a run comes to that writes a long statement of these rows."""
+    return answers(in_lines([LONG_HEADER, *rows]))
+
+
+def long_stated(journal, account, day, *more, fares=SAMPLE, zone=LONDON):
+    """What the long statement by a journal, or by a folder of them, comes to."""
+    return run(["statement", fares, zone, str(account), str(day), "--long", "--journal", journal, *more])
+
+
 RAIL_AND_LONE = [*ZONE_DAY[:6], (1704715200, 10, "IN")]
 RAIL_AND_LONE_ROWS = [
     "19730,RAIL,10,12,07:00:00,340,1-2",

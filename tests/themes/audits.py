@@ -11,7 +11,8 @@ from support.serving import closed, ended, serving, talk
 from support.theme import Theme
 
 BUS = f"TAP 1 1 7 {SEVEN} 50 BUS"
-LOST = f"in the ledger and not in the journal: {BUS}, on day 19730 at second 25200"
+OF_MONDAY = "the week from day 19730, 2024-01-08, through day 19730, 2024-01-08"
+LOST = f"in the ledger and not in the journal: {BUS}, on day 19730, 2024-01-08, at second 25200"
 
 
 def audit(folder, ledger="ledger", journal="journal", fares=RUN[1], more=()):
@@ -48,7 +49,11 @@ class Audits(Theme):
         )
         self.check("settled", audit(self.folder), answers(b""))
         self.check("a late tap", later(f"TAP 1 2 7 {SEVEN + 7200} 50 BUS"), answers(b"OK 19730 350 350\n"))
-        self.check("not settled", audit(self.folder), answers(b"UNSETTLED 7 19730 19730 350 175\nCLOSE 19730\n"))
+        self.check(
+            "not settled",
+            audit(self.folder),
+            answers(b"UNSETTLED 7 19730 19730 350 175 2024-01-08 2024-01-08\nCLOSE 19730\n"),
+        )
         self.check("an account that was not posted", later(f"TAP 1 1 8 {SEVEN} 50 BUS"), answers(b"OK 19730 175 175\n"))
         self.check(
             "a tap of a day that is not closed",
@@ -65,7 +70,10 @@ class Audits(Theme):
         self.check(
             "two are not settled",
             told,
-            answers(b"UNSETTLED 7 19730 19730 350 175\nUNSETTLED 8 19730 19730 175 0\nCLOSE 19730\n"),
+            answers(
+                b"UNSETTLED 7 19730 19730 350 175 2024-01-08 2024-01-08\n"
+                b"UNSETTLED 8 19730 19730 175 0 2024-01-08 2024-01-08\nCLOSE 19730\n"
+            ),
         )
         self.check("nothing is changed", answers(repr(all_files(self.folder)).encode()), answers(repr(before).encode()))
         closes = [line for line in told.output.decode().splitlines() if line.startswith("CLOSE")]
@@ -93,13 +101,19 @@ class Audits(Theme):
         self.check(
             "what they are",
             audit(self.folder),
-            answers(b"UNSETTLED 7 19730 19736 425 525\nUNSETTLED 7 19737 19738 0 175\nCLOSE 19736\nCLOSE 19738\n"),
+            answers(
+                b"UNSETTLED 7 19730 19736 425 525 2024-01-08 2024-01-14\n"
+                b"UNSETTLED 7 19737 19738 0 175 2024-01-15 2024-01-16\nCLOSE 19736\nCLOSE 19738\n"
+            ),
         )
         self.check("a voided tap", later("FIX 1 3 7 VOID 1 4"), answers(b"OK 19737 0 0\n"))
         self.check(
             "of the tap nothing is due",
             audit(self.folder),
-            answers(b"UNSETTLED 7 19730 19736 425 525\nUNSETTLED 7 19737 19738 0 175\nCLOSE 19736\nCLOSE 19738\n"),
+            answers(
+                b"UNSETTLED 7 19730 19736 425 525 2024-01-08 2024-01-14\n"
+                b"UNSETTLED 7 19737 19738 0 175 2024-01-15 2024-01-16\nCLOSE 19736\nCLOSE 19738\n"
+            ),
         )
         self.check("without the ledger", audit(self.folder, ledger=None), answers(b""))
 
@@ -116,11 +130,19 @@ class Audits(Theme):
         )
         self.check("settled", audit(self.folder), answers(b""))
         self.check("its Out", later(f"FIX 3 1 7 FILL {SEVEN + 1800} 12 OUT"), answers(b"OK 19730 340 340\n"))
-        self.check("less is due", audit(self.folder), answers(b"UNSETTLED 7 19730 19730 340 860\nCLOSE 19730\n"))
+        self.check(
+            "less is due",
+            audit(self.folder),
+            answers(b"UNSETTLED 7 19730 19730 340 860 2024-01-08 2024-01-08\nCLOSE 19730\n"),
+        )
         # The Out alone is 860 too, and falls to operator 2.
         self.check("no In", later("FIX 3 2 7 VOID 1 1"), answers(b"OK 19730 860 860\n"))
         told = audit(self.folder)
-        self.check("as much is due", told, answers(b"UNSETTLED 7 19730 19730 860 860\nCLOSE 19730\n"))
+        self.check(
+            "as much is due",
+            told,
+            answers(b"UNSETTLED 7 19730 19730 860 860 2024-01-08 2024-01-08\nCLOSE 19730\n"),
+        )
         self.check(
             "its close",
             session_over(self.folder, ["CLOSE 19730"]),
@@ -145,14 +167,16 @@ class Audits(Theme):
             session_over(self.folder, ["CLOSE 19738"]),
             answers(b"PAY 7 19737 19738 2 175 175 4=175\nDONE 19738 1\n"),
         )
-        self.check("two accounts of the first", audit(self.folder), answers(b"UNCLOSED 19730 2\nCLOSE 19736\n"))
+        self.check(
+            "two accounts of the first", audit(self.folder), answers(b"UNCLOSED 19730 2 2024-01-08\nCLOSE 19736\n")
+        )
         # Through Tuesday account 8 has nothing, and is not quoted.
         self.check(
             "a close of its Tuesday",
             session_over(self.folder, ["CLOSE 19731"]),
             answers(b"PAY 7 19730 19731 2 175 175 4=175\nDONE 19731 1\n"),
         )
-        self.check("account 8 is left", audit(self.folder), answers(b"UNCLOSED 19730 1\nCLOSE 19736\n"))
+        self.check("account 8 is left", audit(self.folder), answers(b"UNCLOSED 19730 1 2024-01-08\nCLOSE 19736\n"))
         # A late tap of account 7, two hours after its first; and in the week from 19716 on a Fill that was withdrawn,
         # and a Credit alone, which no close quotes. After Tuesday 19738 no day is known to be over.
         self.check(
@@ -171,7 +195,8 @@ class Audits(Theme):
             "all that is open",
             told,
             answers(
-                b"UNSETTLED 7 19730 19731 350 175\nUNCLOSED 19716 1\nUNCLOSED 19730 1\n"
+                b"UNSETTLED 7 19730 19731 350 175 2024-01-08 2024-01-09\n"
+                b"UNCLOSED 19716 1 2023-12-25\nUNCLOSED 19730 1 2024-01-08\n"
                 b"CLOSE 19722\nCLOSE 19731\nCLOSE 19736\n"
             ),
         )
@@ -209,8 +234,8 @@ class Audits(Theme):
             "an older ledger",
             audit(self.folder, ledger=first),
             differs(
-                "another or an older ledger than the journal's: no posting of account 7 for week 19730 through 19730",
-                more="UNSETTLED 7 19730 19730 350 175\nCLOSE 19730\n",
+                f"another or an older ledger than the journal's: no posting of account 7 for {OF_MONDAY}",
+                more="UNSETTLED 7 19730 19730 350 175 2024-01-08 2024-01-08\nCLOSE 19730\n",
             ),
         )
         whole = bytes_of(journal)
@@ -219,10 +244,12 @@ class Audits(Theme):
             "other fares",
             audit(self.folder, fares=dearer),
             differs(
-                "other fares than the journal's on day 4: rules.bus; account 7 travelled on day 19730",
-                "account 7 was posted otherwise for week 19730 through 19730",
-                "account 8 was posted otherwise for week 19730 through 19730",
-                more="UNSETTLED 7 19730 19730 352 350\nUNSETTLED 8 19730 19730 352 350\nCLOSE 19730\n",
+                "other fares than the journal's on day 4, 1970-01-05: rules.bus; "
+                "account 7 travelled on day 19730, 2024-01-08",
+                f"account 7 was posted otherwise for {OF_MONDAY}",
+                f"account 8 was posted otherwise for {OF_MONDAY}",
+                more="UNSETTLED 7 19730 19730 352 350 2024-01-08 2024-01-08\n"
+                "UNSETTLED 8 19730 19730 352 350 2024-01-08 2024-01-08\nCLOSE 19730\n",
             ),
         )
         edition = written(self.folder, "edition.toml", an_edition(19737, 180))
@@ -238,8 +265,9 @@ class Audits(Theme):
             audit(self.folder),
             differs(
                 LOST,
-                f"in the ledger and not in the journal: TAP 1 1 8 {SEVEN} 50 BUS, on day 19730 at second 25200",
-                more="UNSETTLED 7 19730 19730 175 350\nCLOSE 19730\n",
+                f"in the ledger and not in the journal: TAP 1 1 8 {SEVEN} 50 BUS, "
+                "on day 19730, 2024-01-08, at second 25200",
+                more="UNSETTLED 7 19730 19730 175 350 2024-01-08 2024-01-08\nCLOSE 19730\n",
             ),
         )
         self.check("lines that are lost, without the ledger", audit(self.folder, ledger=None), answers(b""))
@@ -272,7 +300,7 @@ class Audits(Theme):
         self.check(
             "a late tap",
             audit(self.folder, journal="journals"),
-            answers(b"UNSETTLED 7 19730 19730 350 175\nCLOSE 19730\n"),
+            answers(b"UNSETTLED 7 19730 19730 350 175 2024-01-08 2024-01-08\nCLOSE 19730\n"),
         )
         os.remove(os.path.join(journals, of_seven))
         self.check("a journal that is lost", audit(self.folder, journal="journals"), differs(LOST))

@@ -34,16 +34,37 @@ NOBODY = text_answer(
     401, b"Corrections are for staff: a number and its secret are asked for.\n", TEXT,
     ("www-authenticate", 'Basic realm="farebox", charset="UTF-8"'),
 )
-STALE = text_answer(403, b"This form is of an earlier start of the page: begin again.\n")
+ONLY_POSTED = text_answer(405, b"Forms are posted here.\n", TEXT, ("allow", "POST"))
+STALE = text_answer(
+    403,
+    b"This form is from before the pages were started again, and was not sent now. If you have sent it before and got no "
+    b"answer, look at the account first: the correction may be there. If it is not, begin again.\n",
+)
 OVER = text_answer(403, b"You may not give a Credit of so much.\n")
 BAD_FORM = text_answer(400, b"This form names no correction.\n")
+NO_SUCH_TIME = text_answer(400, b"No clock shows this time on that day, since the clocks go forward. Give another time.\n")
 LOST = text_answer(
     503,
-    b"The service did not answer: it is not known whether the correction was kept. Reload this page to send the same again: it is kept once.\n",
+    b"The service did not answer. The correction may have been kept, or not. Reload this page to send the same form again: it "
+    b"is kept once. If the form is refused then, since the pages were started again, look at the account first: the "
+    b"correction may be there.\n",
     HTML,
 )
 KEPT, KEPT_BEFORE = b"The correction is kept.", b"It was kept before: nothing was done twice."
 REFUSED = b"It was refused, and nothing has changed."
+UNKNOWN_YET = b"It may have been kept, or not: look at the day before you correct it again."
+# What else is said of a refusal.
+ADVICE = {
+    1: b"The time is too early, or too far ahead of the clock: give another time.",
+    15: b"There is no such place, or its kind is another: give another place or kind.",
+    22: b"Another correction of yours has this number, from the same second: go back and make a new preview.",
+    23: b"The account has as many corrections as it can have: tell the operator.",
+    30: b"The service has too much to do: wait, and reload this page to send the same form again.",
+    34: b"No corrections are taken where the pages send them: tell the operator.",
+    50: b"The service does not know these pages, or they have another greeting: tell the operator.",
+    52: b"The service is late: reload this page to send the same form again, which is kept once.",
+    90: b"The service had no memory: wait, and reload this page to send the same form again.",
+}
 
 # With examples/sample.toml: Monday 2024-01-08, day 19730, in at 07:00 in London; and Monday 2024-07-08, day 19912, in at
 # 06:30 in summer time. Neither has an Out yet: each is a maximum fare.
@@ -190,9 +211,9 @@ class Fixes(Theme):
         next_second()
         fields, line = self.previewed(f"{name}, previewed", office, path, body, what, rows, clerk)
         done = self.check_sent(f"{name}, sent", office, fields, line, reply, KEPT, clerk)
-        self.check(f"{name}: withdraws it", forms_of(done.body, "/preview"), [
-            [("account", fields["account"]), ("day", fields["day"]), ("what", f"DROP {clerk.staff} {fields['seq']}")]
-        ])
+        # None withdraws a Drop.
+        back = [("account", fields["account"]), ("day", fields["day"]), ("what", f"DROP {clerk.staff} {fields['seq']}")]
+        self.check(f"{name}: withdraws it", forms_of(done.body, "/preview"), [] if what.startswith("DROP ") else [back])
         kept = office.kept()
         self.check(f"{name}: kept once", office.count(line), 1)
         again = reply.replace("OK", "AGAIN", 1)
@@ -240,6 +261,17 @@ class Fixes(Theme):
                 changes(["3.40", "8.60", "+5.20"], ["2.40", "7.60", "+5.20"]), "OK 19730 860 860",
             )
             self.check_amounts("the day without it", office, 7, MONDAY, "8.60")
+            # What is withdrawn has no button any more, and neither has the Drop. From another day's page the Credit is
+            # withdrawn on its own.
+            self.check("what was withdrawn", soon(lambda: self.choices(office, 7)[1] == ["VOID 1 1", drops[1]]), True)
+            page, _ = self.choices(office, 7)
+            self.check("in words", [row[-1].strip() for row in cells_of(page.body) if row[1:2] and row[1].startswith("day ")], [
+                "no", "Withdraw..", "no"
+            ])
+            page, _ = self.choices(office, 7, MONDAY + 1)
+            self.check("from the day after", [dict(it) for it in forms_of(page.body, "/preview")], [
+                {"account": "7", "day": str(MONDAY), "what": drops[1]}
+            ])
             # The other clerk may give nothing back, and take out a tap. What is due is not below 0.
             self.corrected(
                 "the tap taken out", office, "/preview", f"{of_day(7)}&what=VOID+1+1", "VOID 1 1",
@@ -274,8 +306,10 @@ class Fixes(Theme):
             twice = office.post("/preview-tap", f"{of_day(9, 20022)}&time=01%3A30&place=50&kind=BUS")
             whats = [dict(it).get("what") for it in forms_of(twice.body, "/fix")]
             self.check("one of two", whats[0] in ("FILL 1729989000 50 BUS", "FILL 1729992600 50 BUS"), True)
+            unseen = office.post("/preview-tap", f"{of_day(9, 19812)}&time=01%3A30&place=50&kind=BUS")
+            self.check("a time that no clock shows", unseen, NO_SUCH_TIME)
             for name, day, time_of in (
-                ("a time that no clock shows", 19812, "01%3A30"), ("24 hours", MONDAY, "24%3A00"),
+                ("24 hours", MONDAY, "24%3A00"),
                 ("60 minutes", MONDAY, "08%3A60"), ("60 seconds", MONDAY, "08%3A10%3A60"),
                 ("no minutes", MONDAY, "08"), ("nothing", MONDAY, ""),
                 ("a colon as it is", MONDAY, "08:10"), ("a date", MONDAY, "2024-01-08T08%3A10"),
@@ -292,6 +326,7 @@ class Fixes(Theme):
             line, reply = codes_of(page.body)
             self.check("its line", re.fullmatch(r"FIX 17 [0-9]+ 7 FILL 1704699000 99 OUT", line) is not None, True)
             self.check("the reply that it would get", reply, "NO 15 UnknownPlace")
+            self.check("what to do", b"<code>NO 15 UnknownPlace</code>. " + ADVICE[15] + b"</p>" in page.body, True)
             self.check("in words", [it in page.body for it in (b"<p>Not sent: ", b"<p>It would be refused: ", b"Sent:")], [True, True, False])
             self.check("no form sends it", forms_of(page.body, "/fix"), [])
             self.check("nothing is kept of it", office.kept(), before)
@@ -303,7 +338,7 @@ class Fixes(Theme):
             kept, other = office.kept(), "CREDIT 19730 100"
             done = self.check_sent(
                 "its number for a Credit", office, {**fields, "what": other}, line.replace("VOID 1 1", other),
-                "NO 22 FixConflict", REFUSED,
+                "NO 22 FixConflict", REFUSED + b" " + ADVICE[22] + b"</p>",
             )
             self.check("it is not offered back", forms_of(done.body, "/preview"), [])
             self.check("nothing more is kept", office.kept(), kept)
@@ -351,7 +386,7 @@ class Fixes(Theme):
                     wanted = UNKNOWN if method == "GET" else UNKNOWN._replace(body=b"")
                     self.check(f"{method} {path}", answer, wanted)
                 for method in ("PUT", "PATCH", "DELETE"):
-                    self.check(f"{method} {path}", office.post(path, body, method=method), ONLY_READ)
+                    self.check(f"{method} {path}", office.post(path, body, method=method), ONLY_POSTED)
             for path in ("/", "/day", "/week", "/correct", "/fix/", "/Fix", "//fix", "/%66ix", "/healthz"):
                 self.check(f"POST {path}", office.post(path, bodies["/fix"]), ONLY_READ)
             for name, token in (("no token", ""), ("another", "0" * 32), ("half of it", fields["token"][:16])):
@@ -457,14 +492,10 @@ class Fixes(Theme):
             self.check("a preview sends nothing", listener.heard, [])
             self.check_sent("in pieces", office, fields, line, "OK 19730 0 0", KEPT)
             markup = self.check_sent(
-                "a reply that is markup", office, fields, line, "NO 52 <b>late</b>",
-                b"It may have been kept, or not: look at the day before you correct it again.",
+                "a reply that is markup", office, fields, line, "NO 52 <b>late</b>", UNKNOWN_YET + b" " + ADVICE[52] + b"</p>",
             )
             self.check("it is text", b"<b>late" in markup.body, False)
-            self.check_sent(
-                "a reply that says nothing of it", office, fields, line, "BYE",
-                b"It may have been kept, or not: look at the day before you correct it again.",
-            )
+            self.check_sent("a reply that says nothing of it", office, fields, line, "BYE", UNKNOWN_YET + b"</p>")
             for name in ("half a reply", "no reply", "no text"):
                 self.check(name, office.post("/fix", urlencode(fields)), LOST)
             began = time.monotonic()
@@ -472,6 +503,93 @@ class Fixes(Theme):
             self.check("after some seconds", 11 < time.monotonic() - began < 20, True)
             self.check("what came", soon(lambda: listener.heard == [f"{line}\n".encode()] * 7 + [b""]), True)
             self.check("its journal is as it was", bytes_of(journal), WINTER_IN.encode())
+
+    def test_refusals_in_words(self):
+        """Each refusal that a clerk can meet has its sentence, and no other reply has one."""
+        told = [*ADVICE, 2, 225, 150]
+        listener = Listener(*([f"NO {number} Name\n".encode()] for number in told))
+        self.addCleanup(listener.close)
+        journal = written(self.folder, "journal", WINTER_IN.encode())
+        with shown(journal, SAMPLE, listener.port, staff_file(self.folder, ANN)) as (ran, port):
+            office = Office(listener.port, self.folder, port, ran)
+            fields, line = self.previewed(
+                "a Void", office, "/preview", f"{of_day(7)}&what=VOID+1+1", "VOID 1 1",
+                changes(["8.60", "0.00", "-8.60"], ["8.60", "0.00", "-8.60"]),
+            )
+            for number in told:
+                begin = UNKNOWN_YET if number == 52 else REFUSED
+                wanted = b"<p>" + begin + (b" " + ADVICE[number] if number in ADVICE else b"") + b"</p>"
+                self.check_sent(f"{number}", office, fields, line, f"NO {number} Name", wanted)
+
+    def test_wrong_secrets(self):
+        """A wrong secret is logged by its clerk's number, at most once a second, and nothing else of what was typed."""
+        journal = written(self.folder, "journal", WINTER_IN.encode())
+        with shown(journal, SAMPLE, 9, staff_file(self.folder, ANN)) as (ran, port):
+            office = Office(9, self.folder, port, ran)
+
+            def tries(clerk, secret):
+                basic = clerk._replace(secret=secret).basic() if secret is not None else None
+                answer = office.post("/preview", f"{of_day(7)}&what=VOID+1+1", Authorization=basic)
+                self.check(f"{clerk.staff}, {secret}", answer, NOBODY)
+
+            def said(line):
+                line = line.encode() + b"\n"
+                self.check(line, heard(ran.stderr, len(line)), line)
+
+            tries(ANN, None)
+            tries(ANN, "sesame")
+            said("farebox: a wrong secret of staff 17")
+            tries(ANN, "sesame open")
+            next_second()
+            tries(ANN, "")
+            said("farebox: a wrong secret of staff 17 (1 more in between)")
+            next_second()
+            tries(ANN._replace(staff=18), "open sesame")
+            said("farebox: a secret with the number of no clerk")
+            self.check("the right one", office.post("/preview", f"{of_day(7)}&what=VOID+1+1").status, 200)
+
+    def test_restarts(self):
+        """A form from before the pages were started again is not sent, and says what to do."""
+        listener = Listener([b"OK 19730 0 0\n"])
+        self.addCleanup(listener.close)
+        journal, staff = written(self.folder, "journal", WINTER_IN.encode()), staff_file(self.folder, ANN)
+        fields = None
+        for _ in range(2):
+            with shown(journal, SAMPLE, listener.port, staff) as (ran, port):
+                office = Office(listener.port, self.folder, port, ran)
+                if fields:
+                    self.check("of the start before", office.post("/fix", urlencode(fields)), STALE)
+                fields, _ = self.previewed(
+                    "a Void", office, "/preview", f"{of_day(7)}&what=VOID+1+1", "VOID 1 1",
+                    changes(["8.60", "0.00", "-8.60"], ["8.60", "0.00", "-8.60"]),
+                )
+        self.check("nothing was sent", listener.heard, [])
+
+    def test_silent_service(self):
+        """A service that says nothing keeps eight connections waiting at most, and no page."""
+        listener = Listener(None)
+        self.addCleanup(listener.close)
+        journal = written(self.folder, "journal", WINTER_IN.encode())
+        with shown(journal, SAMPLE, listener.port, staff_file(self.folder, ANN)) as (ran, port):
+            office = Office(listener.port, self.folder, port, ran)
+            fields, _ = self.previewed(
+                "a Void", office, "/preview", f"{of_day(7)}&what=VOID+1+1", "VOID 1 1",
+                changes(["8.60", "0.00", "-8.60"], ["8.60", "0.00", "-8.60"]),
+            )
+            came = []
+            waiting = [threading.Thread(target=lambda: came.append(office.post("/fix", urlencode(fields)))) for _ in range(12)]
+            began = time.monotonic()
+            for it in waiting:
+                it.start()
+            self.check("four are not kept waiting", soon(lambda: came == [LOST] * 4), True)
+            said = f"farebox: too many wait for the service at {HOST}:{listener.port}"
+            self.check("it is said", heard(ran.stderr, len(said)), said.encode())
+            self.check("a page", asked(port, f"/day?{of_day(7)}").status, 200)
+            self.check("before the others", (len(came), time.monotonic() - began < 8), (4, True))
+            for it in waiting:
+                it.join(TIME_TO_REPLY)
+            self.check("and they", came, [LOST] * 12)
+            self.check("in their time", 11 < time.monotonic() - began < 20, True)
 
     def test_greeting(self):
         """A service that asks for a greeting is corrected with it, and refuses another."""
@@ -490,7 +608,10 @@ class Fixes(Theme):
                         f"by {greeting}", other, "/preview-credit", f"{of_day(7)}&pence=100", "CREDIT 19730 100",
                         changes(["0.00", "0.00", "0.00"], ["0.00", "0.00", "0.00"]),
                     )
-                    self.check_sent(f"by {greeting}, sent", other, fields, line, "NO 50 BadLine", REFUSED)
+                    said = REFUSED + b" " + ADVICE[50] + b"</p>"
+                    self.check_sent(f"by {greeting}, sent", other, fields, line, "NO 50 BadLine", said)
+                    logged = f"farebox: no correction is taken at {HOST}:{office.control}: another greeting, or no service\n"
+                    self.check(f"by {greeting}, logged", heard(ran.stderr, len(logged)), logged.encode())
             self.check("nothing is kept", office.kept(), before)
 
     def test_without_staff(self):

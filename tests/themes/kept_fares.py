@@ -7,7 +7,7 @@ from support.fares import an_edition, quiet
 from support.journals import keep_beside, text_beside
 from support.repository import LONDON
 from support.running import (
-    A_DAY, FARES, RUN, SEVEN, End, answers, bytes_of, fault, heard, in_lines, limited_to, run, started, written,
+    A_DAY, FARES, RUN, SEVEN, End, answers, bytes_of, dated, fault, heard, in_lines, limited_to, run, started, written,
 )
 from support.theme import Theme
 
@@ -18,7 +18,7 @@ PARIS = "CET-1CEST,M3.5.0,M10.5.0/3"
 
 
 def other(day, key, on, account=7):
-    return fault(f"other fares than the journal's on day {day}: {key}; account {account} travelled on day {on}")
+    return fault(f"other fares than the journal's on {dated(day)}: {key}; account {account} travelled on {dated(on)}")
 
 
 def begun(journal, lines, words=RUN, more=(), **how):

@@ -22,7 +22,7 @@ CANNOT_READ = fault("cannot read the journal's last posting")
 
 
 def lacks(account, week, through):
-    posting = f"account {account} for week {week} through {through}"
+    posting = f"account {account} for the week from {dated(week)}, through {dated(through)}"
     return fault(f"another or an older ledger than the journal's: no posting of {posting}")
 
 
@@ -175,7 +175,7 @@ class LastPostings(Theme):
             self.check(
                 f"{name}, a journal that has lost a line",
                 session_over(self.folder, ["CLOSE 19731"]),
-                fault(f"in the ledger and not in the journal: {TUESDAY[0]}, on day 19731 at second 25200"),
+                fault(f"in the ledger and not in the journal: {TUESDAY[0]}, on {dated(19731)}, at second 25200"),
             )
             self.check(f"{name}, what is noted then", answers(bytes_of(noted)), answers(text))
             written(self.folder, "journal", whole)

@@ -186,10 +186,12 @@ class OtherJournals(Theme):
         ))
         self.check("the ledger's own", run(with_ledger(path, journal), lines), answers(replies))
         left = copied_rows(path, self.folder)
-        lacks_first = lacks(f"{first}, on day 19730 at second 25200")
-        lacks_second = lacks(f"{second}, on day 19730 at second 32400")
+        lacks_first = lacks(f"{first}, on day 19730, 2024-01-08, at second 25200")
+        lacks_second = lacks(f"{second}, on day 19730, 2024-01-08, at second 32400")
         dearer = written(self.folder, "dearer", bytes_of(FARES).replace(b"bus = 175", b"bus = 176"))
-        otherwise = fault("account 7 was posted otherwise for week 19730 through 19730")
+        otherwise = fault(
+            "account 7 was posted otherwise for the week from day 19730, 2024-01-08, through day 19730, 2024-01-08"
+        )
         for name, text, words, wanted in (
             ("another tap of that number", (first.replace("50 BUS", "10 IN"), second), RUN, lacks_first),
             ("the other line alone", (second,), RUN, lacks_first),
@@ -245,10 +247,11 @@ class OtherJournals(Theme):
         lines, replies = session(EACH_FORM)
         self.check("the ledger's own", run(with_ledger(path, journal, RUN_SAMPLE), lines), answers(replies))
         kept = [line for line, _ in EACH_FORM[:-1]]
+        on_monday = ", on day 19730, 2024-01-08, at second"
         for number, line in enumerate(kept):
             at = {
-                0: ", on day 19730 at second 25200", 1: ", on day 19730 at second 27000",
-                5: ", on day 19730 at second 25200", 6: ", on day 19730 at second 25200",
+                0: f"{on_monday} 25200", 1: f"{on_monday} 27000", 2: ", of day 19730, 2024-01-08",
+                5: f"{on_monday} 25200", 6: f"{on_monday} 25200",
             }.get(number, "")
             other = written(self.folder, "other", in_lines(kept[:number] + kept[number + 1:]))
             self.check(f"without {line}", run(with_ledger(path, other, RUN_SAMPLE)), lacks(line + at))
@@ -256,7 +259,7 @@ class OtherJournals(Theme):
         self.check(
             "without two accounts",
             run(with_ledger(path, other, RUN_SAMPLE)),
-            lacks(f"{kept[5]}, on day 19730 at second 25200"),
+            lacks(f"{kept[5]}{on_monday} 25200"),
         )
         other = written(self.folder, "other", in_lines([kept[6], *kept[:6]]))
         self.check("all lines in another order", run(with_ledger(path, other, RUN_SAMPLE)), answers(b""))

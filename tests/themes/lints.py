@@ -2,7 +2,7 @@
 does."""
 
 from support.repository import COUNTED, LONDON, SAMPLE, TWO
-from support.running import FARES, MISSING, End, answers, edited, fault, read, run, written
+from support.running import FARES, MISSING, End, answers, dated, edited, fault, read, run, written
 from support.theme import Theme
 
 LAST_STATION = "{ place = 14, low = 3, high = 3, operator = 3 },"
@@ -37,18 +37,26 @@ WARNINGS = (
     ("zones = 3", "zones = 3\nb = 1\na = 1", ("key a is not read", "key b is not read")),
 )
 # The same in examples/two.toml, which has no holiday after the day on which its edition begins.
-NONE_AFTER = "no holiday after day 19731"
+NONE_AFTER = "no holiday after day 19731, 2024-01-09"
 WARNINGS_OF_TWO = (
     ("zones = 3", "zones = 3", (NONE_AFTER,)),
     ("holidays = [19723]", "holidays = [19723, 19732]", ()),
     ("holidays = [19723]", "holidays = [19723, 19731]", (NONE_AFTER,)),
-    (f"band = [\n{LAST_BANDS}]\n", "", ("at the edition of day 19731: no bands", NONE_AFTER)),
-    ("day = 19731", "day = 19731\nrulez = 1", ("at the edition of day 19731: key rulez is not read", NONE_AFTER)),
-    ("week = 4500", "week = 450", ("at the edition of day 19731, band 2: week 450 is below day 900", NONE_AFTER)),
+    (f"band = [\n{LAST_BANDS}]\n", "", ("at the edition of day 19731, 2024-01-09: no bands", NONE_AFTER)),
+    (
+        "day = 19731",
+        "day = 19731\nrulez = 1",
+        ("at the edition of day 19731, 2024-01-09: key rulez is not read", NONE_AFTER),
+    ),
+    (
+        "week = 4500",
+        "week = 450",
+        ("at the edition of day 19731, 2024-01-09, band 2: week 450 is below day 900", NONE_AFTER),
+    ),
     (
         "peak = 380, off = 310",
         "peak = 300, off = 310",
-        ("at the edition of day 19731, single 3: peak 300 is below off 310", NONE_AFTER),
+        ("at the edition of day 19731, 2024-01-09, single 3: peak 300 is below off 310", NONE_AFTER),
     ),
 )
 # What is put in the place of what in examples/two.toml, how the file is then refused, and where its fault lies.
@@ -68,9 +76,9 @@ FAULTS = (
     (
         EDITION_RULES,
         EDITION_RULES.replace("3600", "3601"),
-        "17 HopperDiffers at the edition of day 19731, key rules.hopper",
+        "17 HopperDiffers at the edition of day 19731, 2024-01-09, key rules.hopper",
     ),
-    ("week = 5300", "week = -1", "13 OutOfRange at the edition of day 19731, band 3, key week"),
+    ("week = 5300", "week = -1", "13 OutOfRange at the edition of day 19731, 2024-01-09, band 3, key week"),
     ("[[edition]]", "[[edition]", "10 NotToml at line 39"),
 )
 # What is put in the place of what in examples/sample.toml, and the first day that is then priced otherwise, with a key.
@@ -119,7 +127,9 @@ FOURTH_ZONE = (
 
 
 def other(day, key):
-    return fault(f"other fares on day {day}: {key}, days through {day - 1} agree")
+    # Day 3 is no service day, and has no date.
+    last = dated(day - 1) if day > 4 else "day 3"
+    return fault(f"other fares on {dated(day)}: {key}; days agree through {last}")
 
 
 def warned(output, warnings):

@@ -481,7 +481,8 @@ class Folders(Theme):
             ("another zone", FARES, "UTC0", "another zone than the journal's"),
             (
                 "other fares", dearer, LONDON,
-                "other fares than the journal's on day 4: rules.bus; account 7 travelled on day 19730",
+                "other fares than the journal's on day 4, 1970-01-05: rules.bus; "
+                "account 7 travelled on day 19730, 2024-01-08",
             ),
         ):
             for more in (with_journals(journals), with_both(journals, ledger)):
@@ -534,7 +535,10 @@ class Folders(Theme):
         self.check(
             "fares that the ledger does not agree with",
             came,
-            fault("account 7 was posted otherwise for week 19730 through 19730"),
+            fault(
+                "account 7 was posted otherwise for the week from day 19730, 2024-01-08, "
+                "through day 19730, 2024-01-08"
+            ),
         )
         self.check("nothing is kept of them", answers(bytes_of(beside)), answers(None))
         with serving(1, 2, 1, more=more) as (ran, port, said):
@@ -723,7 +727,7 @@ class Ledgers(Theme):
             self.check(
                 f"a journal that is lost, {shards} shards",
                 came,
-                lacks(f"{TAP_OUT.strip()}, on day 19730 at second 27000"),
+                lacks(f"{TAP_OUT.strip()}, on day 19730, 2024-01-08, at second 27000"),
             )
         self.check("a journal that is lost, the rows", answers(rows_of_ledger(ledger)), answers(posted))
 

@@ -645,7 +645,7 @@ class Stays(Theme):
         self.check_rows("early", early)
         self.check_rows("first", first, boarding(7), close)
         self.check_rows("second", second, boarding(7), close)
-        unsettled = f"UNSETTLED 7 {MONDAY} {MONDAY} 350 175\nCLOSE 19730\n".encode()
+        unsettled = f"UNSETTLED 7 {MONDAY} {MONDAY} 350 175 2024-01-08 2024-01-08\nCLOSE 19730\n".encode()
         for name, folder, wanted in (
             ("early", early, b""), ("first", first, b""), ("second", second, unsettled), ("third", third, b""),
             ("fourth", fourth, b""),

@@ -36,7 +36,8 @@ Commands:
   run        Read taps, corrections and closes from standard input, and reply to each
   check      Read a fare file, and print how many places, bands, interchanges, holidays and editions
              it has, or its first fault; or compare it with another
-  statement  Read taps and corrections from standard input, and print the statement of an account's week as CSV
+  statement  Read taps and corrections from standard input, and print the statement of an account's
+             week as CSV; or a long one, from journals, with all that the week comes to
   explain    Read journals, and say why an account's day or week was charged, in plain words
   page       Show why accounts were charged, as web pages for customer service, and take corrections
   replay     Read journals, and print how many lines and accounts they have, with the first and last
@@ -74,12 +75,14 @@ FARES ZONE --port P --lanes L --shards N --control C --journal FOLDER --ledger F
 
 Further options: --journal FILE and --ledger FILE of run, and --sync with --journal; --lint and
 --against OLD of check, where OLD is another fare file, and --after DAY with --against; --journal
-FILE of statement, where it is only read; --ledger FILE of explain, where it is only read, and
---week, for the week through DAY; --control C of page, to ask a service, --greeting TEXT, which that
-service has, and --staff FILE, the clerks who may correct; --journal FOLDER and --ledger FILE of
-serve; --ahead S of serve with --control, to refuse taps more than S seconds ahead of this machine's
-clock, --refused FILE, to which refused lines are added, and --greeting TEXT, with which connections
-begin; --early of run and of serve, to close a day that is not over yet; --ledger FILE of audit.
+FILE of statement, where it is only read, --long with --journal PATH, for the long statement, and
+--ledger FILE with --long; --ledger FILE of explain, where it is only read, and --week, for the week
+through DAY; --control C of page, to ask a service, --greeting TEXT, which that service has, --staff
+FILE, the clerks who may correct, and --ledger FILE, where it is only read; --journal FOLDER and
+--ledger FILE of serve; --ahead S of serve with --control, to refuse taps more than S seconds ahead
+of this machine's clock, --refused FILE, to which refused lines are added, and --greeting TEXT, with
+which connections begin; --early of run and of serve, to close a day that is not over yet; --ledger
+FILE of audit.
 """ + RUN_EXAMPLE + STATUSES + RUN_FORMATS
 RUN_HELP = b"""\
 Read taps, corrections and closes from standard input, and reply to each
@@ -142,7 +145,8 @@ Example: the same, and an edition with new fares from Tuesday 9 January 2024 on.
 The fare file and the faults are described in docs/FORMATS.md.
 """
 STATEMENT_HELP = b"""\
-Read taps and corrections from standard input, and print the statement of an account's week as CSV
+Read taps and corrections from standard input, and print the statement of an account's
+week as CSV; or a long one, from journals, with all that the week comes to
 
 Usage: farebox statement [OPTIONS] <FARES> <ZONE> <ACCOUNT> <DAY>
 
@@ -155,8 +159,14 @@ Arguments:
              to 50000, counted from 1970-01-01
 
 Options:
-      --journal <FILE>  A file of the lines that were accepted. They are taken first; it is only
-                        read
+      --journal <PATH>  A file of the lines that were accepted. They are taken first; it is only
+                        read. With --long, a journal that has the account, or a folder of
+                        journals
+      --ledger <FILE>   With --long: the SQLite file that days were closed into, for what was
+                        posted; it is only read
+      --long            Print the long statement, which names places, and has rows for caps,
+                        Credits and what was posted. It needs --journal, and standard input is
+                        not read
   -h, --help            Print help
 
 With --journal FILE the lines that were accepted before are taken first, and then those of standard
@@ -168,6 +178,11 @@ printed; at the end of input the journeys of its week are, a row for each.
   TAP 1 1 7 1704697200 50 BUS
   day,kind,from,to,start,fare,band
   19730,BUS,50,0,07:00:00,175,-
+
+With --long too, PATH is also a FOLDER of `serve --journal FOLDER`, standard input is not read, and
+the rows are those of the whole week: its journeys with the names of places, what caps take off, the
+Credits, and with --ledger FILE what was posted. The column `amount` adds up to what is due, and the
+column `posted` to what was charged.
 """ + STATUSES + b"""
 The lines, the fare file, the statement and the faults are described in docs/FORMATS.md.
 """
@@ -212,12 +227,15 @@ Options:
                          counted is shown at /metrics, and corrections are sent to it
       --greeting <TEXT>  The greeting of that service, if it has one. It needs --control
       --staff <FILE>     The file of the clerks who may correct. It needs --control
+      --ledger <FILE>    The SQLite file that days were closed into, or a copy of it, for what was
+                         posted; it is only read
   -h, --help             Print help
 
 PATH is the FILE of `run --journal FILE`, or the FOLDER of `serve --journal FOLDER`. The ports are
 of 127.0.0.1 alone. Standard input is not read. With --control C the pages show at /metrics what
 `serve --control C` has counted. With --staff FILE too, the clerks in FILE may correct, and their
-corrections are sent to that port. If the service has a --greeting, the pages need the same.
+corrections are sent to that port. If the service has a --greeting, the pages need the same. With
+--ledger FILE the page of a week shows what was posted. FILE may be a copy of the ledger.
 """ + STATUSES + b"""
 The journal, the fare file and the faults are described in docs/FORMATS.md.
 """
@@ -438,7 +456,7 @@ REFUSED_WORDS = (
     ["page", FARES, LONDON, "--port=8080"], ["page", FARES, "--journal", MISSING, "--port=8080"],
     *(["page", FARES, LONDON, "--journal", MISSING, "--port", port] for port in ("", "0", "65536", "-1", "x")),
     *(["page", FARES, LONDON, "--journal", MISSING, "--port=8080", more] for more in (
-        "more", "--port=8080", "--port=8081", "--journal=a", "--ledger=a", "--early", "--week", "--version",
+        "more", "--port=8080", "--port=8081", "--journal=a", "--ledger", "--early", "--week", "--long", "--version",
     )),
     # A service that is asked: its port, which is another than that of the pages; and with it a greeting, and a file of clerks.
     *(["page", FARES, LONDON, "--journal", MISSING, "--port=8080", *more] for more in (
@@ -448,7 +466,7 @@ REFUSED_WORDS = (
         ["--control=9100", "--staff=a", "--staff=a"],
         *([f"--control={port}", "--staff=a"] for port in ("", "0", "8080", "08080", "65536", "-1", "x")),
     )),
-    [*RUN, "--staff=a"], [*SERVE, "--staff=a"],
+    [*RUN, "--staff=a"], [*SERVE, "--staff=a"], [*RUN, "--long"], [*SERVE, "--long"],
     # Of an audit and of the lines of a ledger; and an option of others.
     ["audit"], ["audit", FARES, LONDON], ["audit", FARES, "--journal", MISSING], ["audit", FARES, LONDON, "--journal"],
     ["audit", FARES, LONDON, "--journal", MISSING, "--journal", MISSING],
@@ -688,6 +706,13 @@ REFUSED_FILES = (
     [*TO_RUN, "--journal", b"\xff"],
     [*TO_STATE, "--sync"], [*TO_STATE, "--journal", "a", "--sync"], [*TO_STATE, "--journal"],
     [*TO_STATE, "--journal", "a", "--journal", "a"], ["check", MISSING, "--journal", "a"],
+    # A long statement has a journal, and a ledger is one's alone.
+    [*TO_STATE, "--long"], [*TO_STATE, "--long", "--ledger", "b"], [*TO_STATE, "--journal", "a", "--ledger", "b"],
+    *([*TO_STATE, "--journal", "a", "--long", *more] for more in (
+        ["--long"], ["--ledger"], ["--ledger", "-b"], ["--ledger=b", "--ledger", "b"], ["true"], ["--week"], ["--early"],
+    )),
+    [*TO_STATE, "--journal", "a", "--long=true"], [*TO_STATE, "--journal", "a", "--long="],
+    [*TO_PAGE, "--ledger=b", "--ledger=b"], [*TO_PAGE, "--ledger", "-b"], [*TO_PAGE, "--ledger=b", "--early"],
     ["replay"], TO_REPLAY[:2], TO_REPLAY, [*TO_REPLAY, "--journal", "a"], [*TO_REPLAY, "a", "--sync"],
     [*TO_REPLAY, "-a"], [*TO_REPLAY, "a", b"\xff"],
     ["--", *TO_REPLAY, "a"], ["REPLAY", *TO_REPLAY[1:], "a"], [*TO_REPLAY, "--"], [*TO_REPLAY, "a", "--ledger", "a"],
@@ -747,6 +772,9 @@ TAKEN_FILES = (
     ["serve", *OPTIONS, "--journal=-a", "--ledger=-b", "--", MISSING, LONDON],
     [*TO_SERVE, "--journal=", "--ledger", ""],
     [*TO_STATE, "--journal", "a"], ["statement", "--journal=a", *TO_STATE[1:]],
+    [*TO_STATE, "--journal", "a", "--long"], ["statement", "--long", *TO_STATE[1:], "--journal=a", "--ledger", "b"],
+    ["statement", "--ledger=-b", *TO_STATE[1:3], "--long", *TO_STATE[3:], "--journal="],
+    [*TO_PAGE, "--ledger", "b"], ["page", "--ledger=-b", *TO_PAGE[1:], "--control=9100", "--staff=a"],
     [*TO_STATE[:3], "--journal", "a", *TO_STATE[3:]],
     [*TO_REPLAY, "a"], [*TO_REPLAY, "a", "b", "a"], [*TO_REPLAY, "--", "-a", "--sync"],
     ["replay", "--", *TO_REPLAY[1:], "a"], [*TO_REPLAY, "-"], [*TO_REPLAY, ""],
