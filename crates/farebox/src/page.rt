@@ -22,18 +22,18 @@ use std::thread::Threads;
 const JOURNALS: u64 = 16;
 
 /// A ledger in the file at a path. It is opened for each question, so a copy that takes its place is seen at once.
-#[derive(Clone, Copy)]
-struct LedgerAt<'a, R> {
-    rt: &'a R,
-    path: &'a str,
+#[derive(Drop)]
+struct LedgerAt<R> {
+    rt: R,
+    path: String,
 }
 
-impl<'a, R, S: Alter + Drop> LooksUp for LedgerAt<'a, R>
+impl<R, S: Alter + Drop> LooksUp for LedgerAt<R>
 where
     R: Files<File = File> + Ledgers<InFile = Ledger<S>>,
 {
     fn postings(&self, account: u32, week: u32) -> Result<Postings, Fault> {
-        postings_in(self.rt, self.path, account, week)
+        postings_in(&self.rt, self.path.as_str(), account, week)
     }
 }
 
@@ -83,7 +83,7 @@ where
         None => None,
     };
     let ledger = match words.ledger {
-        Some(path) => Some(ledger_at(&rt, path)?),
+        Some(path) => Some(ledger_at(rt, path)?),
         None => None,
     };
     let given = Given {
@@ -99,13 +99,14 @@ where
 }
 
 /// The ledger in the file at a path, if there is one that can be read.
-fn ledger_at<'a, R, S: Alter + Drop>(rt: &'a R, path: &'a str) -> Result<LedgerAt<'a, R>, Fault>
+fn ledger_at<R, S: Alter + Drop>(rt: R, path: &str) -> Result<LedgerAt<R>, Fault>
 where
-    R: Files<File = File> + Ledgers<InFile = Ledger<S>>,
+    R: Files<File = File> + Ledgers<InFile = Ledger<S>> + AllocGlobal + Copy,
 {
-    refuse_missing(rt, path)?;
+    refuse_missing(&rt, path)?;
     let ledger = rt.existing_ledger(path)?;
     rt.close(ledger);
+    let path = text_of(&rt, path)?;
     Ok(LedgerAt { rt, path })
 }
 
