@@ -174,20 +174,13 @@ const CHOICES: &str = "<!DOCTYPE html>
 </th><td>day 19731, 2024-01-09</td><td>
 <form action=\"/preview\" method=\"post\">
 <input type=\"hidden\" name=\"account\" value=\"7\">
-<input type=\"hidden\" name=\"day\" value=\"19730\">
+<input type=\"hidden\" name=\"day\" value=\"19731\">
 <input type=\"hidden\" name=\"what\" value=\"DROP 3 4\">
 <button type=\"submit\">Withdraw..</button>
 </form>
 </td></tr>
 <tr><th scope=\"row\">         Drop 3 5 of 9 9: names nothing
-</th><td>none</td><td>
-<form action=\"/preview\" method=\"post\">
-<input type=\"hidden\" name=\"account\" value=\"7\">
-<input type=\"hidden\" name=\"day\" value=\"19730\">
-<input type=\"hidden\" name=\"what\" value=\"DROP 3 5\">
-<button type=\"submit\">Withdraw..</button>
-</form>
-</td></tr>
+</th><td>none</td><td>no</td></tr>
 </tbody>
 </table>
 <h2>Give a credit</h2>
@@ -250,7 +243,7 @@ const PREVIEW: &str = "<!DOCTYPE html>
 <tr><th scope=\"row\">Due of its week through this day</th><td class=\"amount\">10.40</td><td class=\"amount\">10.50</td><td class=\"amount\">+0.10</td></tr>
 </tbody>
 </table>
-<p>A Credit changes no price: it is taken off what is due.</p>
+<p>A Credit changes no price: it is taken off what is due. What changes on other days is not shown here.</p>
 <form action=\"/fix\" method=\"post\">
 <input type=\"hidden\" name=\"account\" value=\"7\">
 <input type=\"hidden\" name=\"day\" value=\"19730\">
@@ -278,7 +271,7 @@ const REFUSAL: &str = "<!DOCTYPE html>
 <main>
 <h1>What a correction of account 7 would change, day 19730</h1>
 <p>Not sent: <code>FIX 3 6 7 VOID 1 1</code></p>
-<p>It would be refused: <code>NO 15 &lt;i&gt;</code></p>
+<p>It would be refused: <code>NO 15 &lt;i&gt;</code>. There is no such place, or its kind is another: give another place or kind.</p>
 <p><a href=\"/correct?account=7&amp;day=19730\">Back, and correct nothing</a></p>
 </main>
 </body>
@@ -332,7 +325,7 @@ const AGAIN: &str = "<p>Reply: <code>AGAIN 19730 340 340</code></p>
 
 /// Where it was refused.
 const REFUSED: &str = "<p>Reply: <code>NO 22 FixConflict</code></p>
-<p>It was refused, and nothing has changed.</p>
+<p>It was refused, and nothing has changed. Another correction of yours has this number, from the same second: go back and make a new preview.</p>
 <p><a href=\"/day?account=7&amp;day=19730\">The day</a></p>
 </main>
 </body>
@@ -341,7 +334,7 @@ const REFUSED: &str = "<p>Reply: <code>NO 22 FixConflict</code></p>
 
 /// Where no reply came in time.
 const LATE: &str = "<p>Reply: <code>NO 52 Late</code></p>
-<p>It may have been kept, or not: look at the day before you correct it again.</p>
+<p>It may have been kept, or not: look at the day before you correct it again. The service is late: reload this page to send the same form again, which is kept once.</p>
 <p><a href=\"/day?account=7&amp;day=19730\">The day</a></p>
 </main>
 </body>
