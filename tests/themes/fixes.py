@@ -476,11 +476,9 @@ class Fixes(Theme):
             self.check_sent("and again", office, fields, line, "AGAIN 19730 0 0", KEPT_BEFORE)
             self.check("kept once", office.count(line), 1)
 
-    def test_what_is_sent(self):
-        """A correction is sent once, as its line alone, and the first line that comes back is shown as text."""
-        listener = Listener(
-            [b"OK 1973", b"0 0 0\nNO 50 BadLine\n"], [b"NO 52 <b>late</b>\n"], [b"BYE\n"], [b"OK 19730"], [], [b"\xff\n"], None,
-        )
+    @contextlib.contextmanager
+    def void_before(self, listener):
+        """Pages whose service is a listener: its office, what the form of a Void's preview sends, its line, and the journal."""
         self.addCleanup(listener.close)
         journal = written(self.folder, "journal", WINTER_IN.encode())
         with shown(journal, SAMPLE, listener.port, staff_file(self.folder, ANN)) as (ran, port):
@@ -489,6 +487,14 @@ class Fixes(Theme):
                 "a Void", office, "/preview", f"{of_day(7)}&what=VOID+1+1", "VOID 1 1",
                 changes(["8.60", "0.00", "-8.60"], ["8.60", "0.00", "-8.60"]),
             )
+            yield office, fields, line, journal
+
+    def test_what_is_sent(self):
+        """A correction is sent once, as its line alone, and the first line that comes back is shown as text."""
+        listener = Listener(
+            [b"OK 1973", b"0 0 0\nNO 50 BadLine\n"], [b"NO 52 <b>late</b>\n"], [b"BYE\n"], [b"OK 19730"], [], [b"\xff\n"], None,
+        )
+        with self.void_before(listener) as (office, fields, line, journal):
             self.check("a preview sends nothing", listener.heard, [])
             self.check_sent("in pieces", office, fields, line, "OK 19730 0 0", KEPT)
             markup = self.check_sent(
@@ -508,14 +514,7 @@ class Fixes(Theme):
         """Each refusal that a clerk can meet has its sentence, and no other reply has one."""
         told = [*ADVICE, 2, 225, 150]
         listener = Listener(*([f"NO {number} Name\n".encode()] for number in told))
-        self.addCleanup(listener.close)
-        journal = written(self.folder, "journal", WINTER_IN.encode())
-        with shown(journal, SAMPLE, listener.port, staff_file(self.folder, ANN)) as (ran, port):
-            office = Office(listener.port, self.folder, port, ran)
-            fields, line = self.previewed(
-                "a Void", office, "/preview", f"{of_day(7)}&what=VOID+1+1", "VOID 1 1",
-                changes(["8.60", "0.00", "-8.60"], ["8.60", "0.00", "-8.60"]),
-            )
+        with self.void_before(listener) as (office, fields, line, _):
             for number in told:
                 begin = UNKNOWN_YET if number == 52 else REFUSED
                 wanted = b"<p>" + begin + (b" " + ADVICE[number] if number in ADVICE else b"") + b"</p>"
