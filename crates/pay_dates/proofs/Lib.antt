@@ -1,4 +1,3 @@
 pub mod DatesOf
 mod Numerals
-pub mod OnLiterals
-pub mod ServiceDays
+mod ServiceDays

@@ -1,5 +1,5 @@
 -- The service day that a text names, by its number or by its date.
-use Rattle.std.specs.Prelude.{◌≡◌, ◌+◌, ◌/◌, ◌%◌, ◌&&◌, ◌++◌, ℕ, ℤ, pos, negsuc, Bool, false, List, [], ◌∷◌, length, codes, nat_le, nat_lt, Option, Some, None, if◌then◌else◌, refl}
+use Rattle.std.specs.Prelude.{◌≡◌, ◌+◌, ◌/◌, ◌%◌, ◌&&◌, ◌++◌, ℕ, ℤ, pos, negsuc, ⊤, Bool, false, List, [], ◌∷◌, length, codes, nat_le, nat_lt, Option, Some, None, if◌then◌else◌, refl}
 use Rattle.std.specs.Option.{option_and_then, option_or}
 use Rattle.std.specs.Result.{result_ok}
 use Rattle.std.specs.Char.{digit_value}
@@ -64,6 +64,11 @@ dated_day text = option_and_then (λ date. spelled_day text date.year date.month
 unfoldable pub day_of_text : List ℕ → Option ℕ
 day_of_text text = option_or (numbered_day text) (dated_day text)
 
+-- what is unfolded so that it computes at a text that is written out
+unfoldable pub day_on_literals : ⊤
+unfolding day_of_text jiff_on_literals days_from_civil
+day_on_literals = tt
+
 -- ---- worked rows
 
 first_number : day_of_text (codes "4") ≡ Some 4
@@ -80,80 +85,80 @@ unfolding day_of_text
 plus_and_zeros = refl
 
 number_before : day_of_text (codes "3") ≡ None
-unfolding day_of_text jiff_on_literals
+unfolding day_on_literals
 number_before = refl
 
 number_beyond : day_of_text (codes "50001") ≡ None
-unfolding day_of_text jiff_on_literals
+unfolding day_on_literals
 number_beyond = refl
 
 -- a date is the first of the range, the last, or a day between
 first_date : day_of_text (codes "1970-01-05") ≡ Some 4
-unfolding day_of_text jiff_on_literals days_from_civil
+unfolding day_on_literals
 first_date = refl
 
 monday : day_of_text (codes "2024-01-08") ≡ Some 19_730
-unfolding day_of_text jiff_on_literals days_from_civil
+unfolding day_on_literals
 monday = refl
 
 leap_day : day_of_text (codes "2024-02-29") ≡ Some 19_782
-unfolding day_of_text jiff_on_literals days_from_civil
+unfolding day_on_literals
 leap_day = refl
 
 last_date : day_of_text (codes "2106-11-24") ≡ Some 50_000
-unfolding day_of_text jiff_on_literals days_from_civil
+unfolding day_on_literals
 last_date = refl
 
 date_before : day_of_text (codes "1970-01-04") ≡ None
-unfolding day_of_text jiff_on_literals days_from_civil
+unfolding day_on_literals
 date_before = refl
 
 date_beyond : day_of_text (codes "2106-11-25") ≡ None
-unfolding day_of_text jiff_on_literals days_from_civil
+unfolding day_on_literals
 date_beyond = refl
 
 before_1970 : day_of_text (codes "1969-12-31") ≡ None
-unfolding day_of_text jiff_on_literals days_from_civil
+unfolding day_on_literals
 before_1970 = refl
 
 -- a date is one of the calendar
 no_leap_day : day_of_text (codes "2023-02-29") ≡ None
-unfolding day_of_text jiff_on_literals days_from_civil
+unfolding day_on_literals
 no_leap_day = refl
 
 no_month : day_of_text (codes "2024-13-08") ≡ None
-unfolding day_of_text jiff_on_literals days_from_civil
+unfolding day_on_literals
 no_month = refl
 
 -- and is spelled in one way
 without_hyphens : day_of_text (codes "20240108") ≡ None
-unfolding day_of_text jiff_on_literals days_from_civil
+unfolding day_on_literals
 without_hyphens = refl
 
 short_month : day_of_text (codes "2024-1-8") ≡ None
-unfolding day_of_text jiff_on_literals days_from_civil
+unfolding day_on_literals
 short_month = refl
 
 with_time : day_of_text (codes "2024-01-08T00:00") ≡ None
-unfolding day_of_text jiff_on_literals days_from_civil
+unfolding day_on_literals
 with_time = refl
 
 signed_year : day_of_text (codes "+002024-01-08") ≡ None
-unfolding day_of_text jiff_on_literals days_from_civil
+unfolding day_on_literals
 signed_year = refl
 
 with_space : day_of_text (codes "2024-01-08 ") ≡ None
-unfolding day_of_text jiff_on_literals days_from_civil
+unfolding day_on_literals
 with_space = refl
 
 with_slashes : day_of_text (codes "2024/01/08") ≡ None
-unfolding day_of_text jiff_on_literals days_from_civil
+unfolding day_on_literals
 with_slashes = refl
 
 week_date : day_of_text (codes "2024-W02-1") ≡ None
-unfolding day_of_text jiff_on_literals days_from_civil
+unfolding day_on_literals
 week_date = refl
 
 empty : day_of_text (codes "") ≡ None
-unfolding day_of_text jiff_on_literals days_from_civil
+unfolding day_on_literals
 empty = refl

@@ -2,6 +2,7 @@
 #![tactic(auto)]
 
 mod dated;
+pub mod laws;
 mod reading;
 
 pub use dated::{DatedDay, DatedWeek};

@@ -6,7 +6,7 @@ use Rattle.clap.specs.Kinds.{Kinds}
 use Rattle.clap.specs.ValueTests.{is_unsigned_in}
 use Rattle.std.specs.Prelude.{IfSome, ⊤, is_some}
 use Rattle.pay_dates.specs.Words.{day_of_text}
-use Rattle.pay_dates.proofs.ServiceDays.{day_no_hyphen}
+use Rattle.pay_dates.specs.Laws.{BeginWithNoHyphen}
 use Rattle.pay_words.specs.OneWord.{is_account}
 use Rattle.std.proofs.lemmas.Bool.Decides.{eqb_tells}
 use Rattle.pay_words.specs.Asked.{AreAuditWords, AreCheckWords, AreExplainWords, ArePageWords, AreRunWords, AreServeWords, AreStatementWords, Asked, HaveNoHyphens, Word, allowed, asked, many_by, many_given, word_kind, words_ask, option_asked, program_asked}
@@ -571,11 +571,11 @@ asks_run ws name r parts is are may f z journal = ap asked is ∙ (ap (λ (x : S
     ∙ (ap allowed (run_is r parts are) ∙ (rw journal refl)))
 
 -- the text of a day begins with no hyphen
-day_has_none : (w : Text) → is_some (day_of_text w) ≡ true → slice_index w 0 ≢ 45
-day_has_none w is = go (day_of_text w) refl
+day_has_none : BeginWithNoHyphen → (w : Text) → is_some (day_of_text w) ≡ true → slice_index w 0 ≢ 45
+day_has_none no_hyphen w is = go (day_of_text w) refl
   where
     go : (o : Option ℕ) → day_of_text w ≡ o → slice_index w 0 ≢ 45
-    go (Some day) named = day_no_hyphen w day named
+    go (Some day) named = no_hyphen w day named
     go None none =
         let no : false ≡ true = rw none at is in absurd (true≢false (sym no))
 
@@ -649,11 +649,11 @@ module _ (t : StatementTexts) (parts : List Part) (are : AreStatementParts t par
   statement_once staff_option = none_of_statement staff_option (λ e. cc)
   statement_once long_option = subst (Once long_option) (sym are.4) (once_flags long_option refl t.long)
 
-  statement_taken : slice_index t.fares 0 ≢ 45 → slice_index t.zone 0 ≢ 45 → is_account t.account ≡ true → is_some (day_of_text t.day) ≡ true → AreTaken statement_grammar parts
+  statement_taken : slice_index t.fares 0 ≢ 45 → slice_index t.zone 0 ≢ 45 → is_account t.account ≡ true → slice_index t.day 0 ≢ 45 → AreTaken statement_grammar parts
   statement_taken f z n d = record {
     are = are.0;
     fits = subst (Fits statement_grammar.places) (sym are.1) (refl, (refl, (n, (refl, tt))));
-    hyphens = subst HaveNoHyphens (sym are.1) (f, (z, (number_has_none 1 4_294_967_295 t.account n, (day_has_none t.day d, tt))));
+    hyphens = subst HaveNoHyphens (sym are.1) (f, (z, (number_has_none 1 4_294_967_295 t.account n, (d, tt))));
     once = statement_once;
   }
 
@@ -664,10 +664,10 @@ module _ (t : StatementTexts) (parts : List Part) (are : AreStatementParts t par
 has_day : (t : StatementTexts) → may_state (statement_of_texts t) ≡ true → is_some (day_of_text t.day) ≡ true
 has_day t states = (both (is_some (day_of_text t.day)) (has_lines (statement_of_texts t) && shows_postings (statement_of_texts t)) states).0
 
-pub asks_statement : (ws : List Text) (name : Text) (t : StatementTexts) (parts : List Part) → ws ≡ name ∷ codes "statement" ∷ words_of_parts parts → AreStatementParts t parts → StandApart parts
+pub asks_statement : BeginWithNoHyphen → (ws : List Text) (name : Text) (t : StatementTexts) (parts : List Part) → ws ≡ name ∷ codes "statement" ∷ words_of_parts parts → AreStatementParts t parts → StandApart parts
     → slice_index t.fares 0 ≢ 45 → slice_index t.zone 0 ≢ 45 → is_account t.account ≡ true → may_state (statement_of_texts t) ≡ true → asked ws ≡ statement (statement_of_texts t)
-asks_statement ws name t parts is are may f z n states = ap asked is
-    ∙ (ap (λ (x : Said). allowed (statement_asked x)) (parts_taken statement_grammar parts (statement_taken t parts are f z n (has_day t states)) may)
+asks_statement no_hyphen ws name t parts is are may f z n states = ap asked is
+    ∙ (ap (λ (x : Said). allowed (statement_asked x)) (parts_taken statement_grammar parts (statement_taken t parts are f z n (day_has_none no_hyphen t.day (has_day t states))) may)
     ∙ (ap allowed (statement_is t parts are) ∙ (rw states refl)))
 
 module _ (t : ExplainTexts) (parts : List Part) (are : AreExplainParts t parts) where
@@ -695,21 +695,21 @@ module _ (t : ExplainTexts) (parts : List Part) (are : AreExplainParts t parts) 
   explain_once staff_option = none_of_explain staff_option (λ e. cc)
   explain_once long_option = none_of_explain long_option (λ e. cc)
 
-  explain_taken : slice_index t.fares 0 ≢ 45 → slice_index t.zone 0 ≢ 45 → is_account t.account ≡ true → is_some (day_of_text t.day) ≡ true → AreTaken explain_grammar parts
+  explain_taken : slice_index t.fares 0 ≢ 45 → slice_index t.zone 0 ≢ 45 → is_account t.account ≡ true → slice_index t.day 0 ≢ 45 → AreTaken explain_grammar parts
   explain_taken f z n d = record {
     are = are.0;
     fits = subst (Fits explain_grammar.places) (sym are.1) (refl, (refl, (n, (refl, tt))));
-    hyphens = subst HaveNoHyphens (sym are.1) (f, (z, (number_has_none 1 4_294_967_295 t.account n, (day_has_none t.day d, tt))));
+    hyphens = subst HaveNoHyphens (sym are.1) (f, (z, (number_has_none 1 4_294_967_295 t.account n, (d, tt))));
     once = explain_once;
   }
 
   explain_is : explain_asked (all_of parts) ≡ explain (explain_of_texts t)
   explain_is = rw (are.1, are.2, are.3, are.4, first_listed t.ledger, given_flags t.week) refl
 
-pub asks_explain : (ws : List Text) (name : Text) (t : ExplainTexts) (parts : List Part) → ws ≡ name ∷ codes "explain" ∷ words_of_parts parts → AreExplainParts t parts → StandApart parts
+pub asks_explain : BeginWithNoHyphen → (ws : List Text) (name : Text) (t : ExplainTexts) (parts : List Part) → ws ≡ name ∷ codes "explain" ∷ words_of_parts parts → AreExplainParts t parts → StandApart parts
     → slice_index t.fares 0 ≢ 45 → slice_index t.zone 0 ≢ 45 → is_account t.account ≡ true → is_some (day_of_text t.day) ≡ true → asked ws ≡ explain (explain_of_texts t)
-asks_explain ws name t parts is are may f z n d = ap asked is
-    ∙ (ap (λ (x : Said). allowed (explain_asked x)) (parts_taken explain_grammar parts (explain_taken t parts are f z n d) may)
+asks_explain no_hyphen ws name t parts is are may f z n d = ap asked is
+    ∙ (ap (λ (x : Said). allowed (explain_asked x)) (parts_taken explain_grammar parts (explain_taken t parts are f z n (day_has_none no_hyphen t.day d)) may)
     ∙ (ap allowed (explain_is t parts are) ∙ (rw d refl)))
 
 module _ (t : PageTexts) (parts : List Part) (are : ArePageParts t parts) (fits : ArePorts t) where

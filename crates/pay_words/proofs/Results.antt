@@ -30,7 +30,7 @@ use Rattle.clap.proofs.WalkLemmas.{both, first_value-rows, one_text-rows, raw_va
 use Rattle.std.specs.Prelude.{IfSome, IsOkAnd, ⊤, is_some}
 use Rattle.pay_day.specs.Words.{IsDay}
 use Rattle.pay_dates.specs.Words.{day_of_text}
-use Rattle.pay_dates.proofs.ServiceDays.{day_is_day}
+use Rattle.pay_dates.specs.Laws.{AreServiceDays, BeginWithNoHyphen}
 use Rattle.pay_words.specs.OneWord.{is_account}
 use Rattle.pay_words.specs.declared.words.Job.{Job}
 use Rattle.pay_words.specs.declared.words.Job.TheVariants.{Run as RunJob, Check as CheckJob, Statement as StatementJob, Explain as ExplainJob, Page as PageJob, Replay, Serve as ServeJob, Stay as StayJob, Audit as AuditJob, Rebuild}
@@ -421,12 +421,12 @@ given_in_range least most (Some w) (Some n) fits is =
     number_in_range least most w n fits same
 
 -- a day that is given is a service day
-days_are : (word : Option Text) (day : Option ℕ) → option_map day_of_text word ≡ option_map Some day → IfSome day IsDay
-days_are word None is = tt
-days_are None (Some day) is = cc
-days_are (Some w) (Some day) is =
+days_are : AreServiceDays → (word : Option Text) (day : Option ℕ) → option_map day_of_text word ≡ option_map Some day → IfSome day IsDay
+days_are service word None is = tt
+days_are service None (Some day) is = cc
+days_are service (Some w) (Some day) is =
     let named : day_of_text w ≡ Some day = cc in
-    day_is_day w day named
+    service w day named
 
 -- of a range, the number that is not exceeded
 at_most : (least most : ℕ) (n : Option ℕ) → IfSome n (λ k. (least ≤ k) × (k ≤ most)) → IfSome n (λ k. k ≤ most)
@@ -450,40 +450,40 @@ greets : {S : Type 0} (text_of : S → Text) (greeting : Option S) → option_ma
 greets text_of None is = tt
 greets text_of (Some s) is = is
 
-job_in_range : (ws : List Text) (job : Job) → asked ws ≡ job_asked job → IsJobInRange job
-job_in_range ws (RunJob w) e = subst IsAllowed e (asked_is_allowed (words_ask ws))
-job_in_range ws (CheckJob w) e =
+job_in_range : AreServiceDays → (ws : List Text) (job : Job) → asked ws ≡ job_asked job → IsJobInRange job
+job_in_range service ws (RunJob w) e = subst IsAllowed e (asked_is_allowed (words_ask ws))
+job_in_range service ws (CheckJob w) e =
     let made = job_words_are ws (CheckJob w) e in (
       (both (has_after_day (check_job w)) (has_against (check_job w)) (subst IsAllowed e (asked_is_allowed (words_ask ws)))).1,
-      days_are made.0.after w.after (ap (λ (c : Check). c.after) made.4),
+      days_are service made.0.after w.after (ap (λ (c : Check). c.after) made.4),
     )
-job_in_range ws (StatementJob w) e =
+job_in_range service ws (StatementJob w) e =
     let made = job_words_are ws (StatementJob w) e in
     let account = number_in_range 1 4_294_967_295 made.0.account w.account made.4 (ap (λ (s : Statement). s.account) made.5) in
     let long = both (has_lines (statement_job w)) (shows_postings (statement_job w)) (subst IsAllowed e (asked_is_allowed (words_ask ws))) in
-    (account.0, account.1, day_is_day made.0.day w.day (ap (λ (s : Statement). s.day) made.5), long.0, long.1)
-job_in_range ws (ExplainJob w) e =
+    (account.0, account.1, service made.0.day w.day (ap (λ (s : Statement). s.day) made.5), long.0, long.1)
+job_in_range service ws (ExplainJob w) e =
     let made = job_words_are ws (ExplainJob w) e in
     let account = number_in_range 1 4_294_967_295 made.0.account w.account made.4 (ap (λ (x : Explain). x.account) made.5) in
-    (account.0, account.1, day_is_day made.0.day w.day (ap (λ (x : Explain). x.day) made.5))
-job_in_range ws (PageJob w) e =
+    (account.0, account.1, service made.0.day w.day (ap (λ (x : Explain). x.day) made.5))
+job_in_range service ws (PageJob w) e =
     let made = job_words_are ws (PageJob w) e in
     let port = number_in_range 1 65_535 made.0.port w.port made.4.0 (ap (λ (p : Page). p.port) made.5) in
     let control = given_in_range 1 65_535 made.0.control (page_job w).control made.4.1 (ap (λ (p : Page). p.control) made.5) in
     let shows = both _ _ (subst IsAllowed e (asked_is_allowed (words_ask ws))) in
     let own = both _ _ shows.1 in
     (port.0, port.1, control_in_range w.port w.control control own.0, greets (λ s. s.now) w.greeting own.1, shows.0)
-job_in_range ws (Replay w) e = (subst (λ (x : Asked). AreWordsOf x (drop 1 ws)) e (in_order ws)).1
-job_in_range ws (ServeJob w) e =
+job_in_range service ws (Replay w) e = (subst (λ (x : Asked). AreWordsOf x (drop 1 ws)) e (in_order ws)).1
+job_in_range service ws (ServeJob w) e =
     let made = job_words_are ws (ServeJob w) e in
     let port = number_in_range 1 65_535 made.0.port w.port made.4.0 (ap (λ (s : Serve). s.port) made.5) in
     let lanes = number_in_range 1 15 made.0.lanes w.lanes made.4.1 (ap (λ (s : Serve). s.lanes) made.5) in
     let shards = number_in_range 1 16 made.0.shards w.shards made.4.2 (ap (λ (s : Serve). s.shards) made.5) in
     let sessions = given_in_range 1 1_000 made.0.sessions (Some w.sessions) made.4.3 (ap (λ (s : Serve). s.sessions) made.5) in
-    let close = days_are made.0.close (Some w.close) (ap (λ (s : Serve). s.close) made.5) in
+    let close = days_are service made.0.close (Some w.close) (ap (λ (s : Serve). s.close) made.5) in
     let ports : last_port w.port w.lanes ≤ 65_535 = leb-true (last_port w.port w.lanes) 65_535 (subst IsAllowed e (asked_is_allowed (words_ask ws))) in
     (port.0, lanes.0, lanes.1, ports, shards.0, shards.1, sessions.0, sessions.1, close)
-job_in_range ws (StayJob w) e =
+job_in_range service ws (StayJob w) e =
     let made = job_words_are ws (StayJob w) e in
     let port = number_in_range 1 65_535 made.0.port w.port made.4.0 (ap (λ (s : Serve). s.port) made.5) in
     let lanes = number_in_range 1 15 made.0.lanes w.lanes made.4.1 (ap (λ (s : Serve). s.lanes) made.5) in
@@ -493,12 +493,12 @@ job_in_range ws (StayJob w) e =
     let room = room_left w.control w.port w.lanes stays.0 in
     let ahead = given_in_range 0 86_400 made.0.ahead w.ahead made.4.5 (ap (λ (s : Serve). s.ahead) made.5) in
     (port.0, control.0, room.0, lanes.0, room.1, shards.0, shards.1, at_most 0 86_400 w.ahead ahead, greets (λ s. s.now) w.greeting stays.1)
-job_in_range ws (AuditJob w) e = tt
-job_in_range ws (Rebuild w) e = tt
+job_in_range service ws (AuditJob w) e = tt
+job_in_range service ws (Rebuild w) e = tt
 
-pub result_in_range : (r : Result Job WordsFault) (ws : List Text) → IfOk r (λ job. asked ws ≡ job_asked job) → IfOk r IsJobInRange
-result_in_range (Ok job) ws h = job_in_range ws job h
-result_in_range (Err fault) ws h = tt
+pub result_in_range : AreServiceDays → (r : Result Job WordsFault) (ws : List Text) → IfOk r (λ job. asked ws ≡ job_asked job) → IfOk r IsJobInRange
+result_in_range service (Ok job) ws h = job_in_range service ws job h
+result_in_range service (Err fault) ws h = tt
 
 pub result_job : (r : Result Job WordsFault) (x : Asked) → Answers x r → IfOk r (λ job. x ≡ job_asked job)
 result_job (Ok job) x h = sym h
@@ -528,13 +528,13 @@ module _ (r : Result Job WordsFault) (ws : List Text) (ok : IfOk r (λ job. aske
       → slice_index t.fares 0 ≢ 45 → may_check (check_of_texts t) ≡ true → IsJobOrMemory (check (check_of_texts t)) r
   result_check name t parts is are may f fits = job_or_memory r ws (check (check_of_texts t)) ok err (asks_check ws name t parts is are may f fits) tt
 
-  pub result_statement : (name : Text) (t : StatementTexts) (parts : List Part) → ws ≡ name ∷ codes "statement" ∷ words_of_parts parts → AreStatementParts t parts → StandApart parts
+  pub result_statement : BeginWithNoHyphen → (name : Text) (t : StatementTexts) (parts : List Part) → ws ≡ name ∷ codes "statement" ∷ words_of_parts parts → AreStatementParts t parts → StandApart parts
       → slice_index t.fares 0 ≢ 45 → slice_index t.zone 0 ≢ 45 → is_account t.account ≡ true → may_state (statement_of_texts t) ≡ true → IsJobOrMemory (statement (statement_of_texts t)) r
-  result_statement name t parts is are may f z n states = job_or_memory r ws (statement (statement_of_texts t)) ok err (asks_statement ws name t parts is are may f z n states) tt
+  result_statement no_hyphen name t parts is are may f z n states = job_or_memory r ws (statement (statement_of_texts t)) ok err (asks_statement no_hyphen ws name t parts is are may f z n states) tt
 
-  pub result_explain : (name : Text) (t : ExplainTexts) (parts : List Part) → ws ≡ name ∷ codes "explain" ∷ words_of_parts parts → AreExplainParts t parts → StandApart parts
+  pub result_explain : BeginWithNoHyphen → (name : Text) (t : ExplainTexts) (parts : List Part) → ws ≡ name ∷ codes "explain" ∷ words_of_parts parts → AreExplainParts t parts → StandApart parts
       → slice_index t.fares 0 ≢ 45 → slice_index t.zone 0 ≢ 45 → is_account t.account ≡ true → is_some (day_of_text t.day) ≡ true → IsJobOrMemory (explain (explain_of_texts t)) r
-  result_explain name t parts is are may f z n d = job_or_memory r ws (explain (explain_of_texts t)) ok err (asks_explain ws name t parts is are may f z n d) tt
+  result_explain no_hyphen name t parts is are may f z n d = job_or_memory r ws (explain (explain_of_texts t)) ok err (asks_explain no_hyphen ws name t parts is are may f z n d) tt
 
   pub result_page : (name : Text) (t : PageTexts) (parts : List Part) → ws ≡ name ∷ codes "page" ∷ words_of_parts parts → ArePageParts t parts → StandApart parts
       → slice_index t.fares 0 ≢ 45 → slice_index t.zone 0 ≢ 45 → ArePorts t → may_show (page_of_texts t) ≡ true → IsJobOrMemory (page (page_of_texts t)) r

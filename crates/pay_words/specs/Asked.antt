@@ -4,8 +4,8 @@ use Rattle.std.specs.Prelude.{◌⊎◌, ⊤, true, false, Some, None, IfSome, i
 use Rattle.std.specs.Str.{bytes_eq, chars}
 use Rattle.std.specs.String.{string_bytes}
 use Rattle.clap.specs.Walk.{texts}
+use Rattle.pay_dates.specs.Reading.{day_on_literals}
 use Rattle.pay_dates.specs.Words.{day_of_text}
-use Rattle.pay_dates.proofs.OnLiterals.{day_on_literals}
 use Rattle.pay_day.specs.Words.{IsDay}
 use Rattle.pay_words.specs.declared.words.Job.{Job}
 use Rattle.pay_words.specs.declared.words.Job.TheVariants.{Run as RunJob, Check as CheckJob, Statement as StatementJob, Explain as ExplainJob, Page as PageJob, Replay, Serve as ServeJob, Stay as StayJob, Audit as AuditJob, Rebuild}

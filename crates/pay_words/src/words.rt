@@ -367,6 +367,7 @@ pub fn read_words<'a>(alloc: Global, words: &'a [&'a str]) -> Result<Job<'a>, Wo
     // Two words with no hyphen before them are the values of `rebuild`.
     ensures rebuild { RebuildIsTaken (texts words.entry.now) result }
 {
+    pay_dates::laws::named_days();
     let command = farebox_command(alloc)?;
     match command.try_get_matches_from(words) {
         Ok(matches) => job_of(alloc, &matches),

@@ -43,7 +43,7 @@ returns-in-Ok-clause-refused c =
     }))
 
 pub returns-in-Ok-clause-in_range : goal.returns-in-Ok-clause-in_range
-returns-in-Ok-clause-in_range c = result_in_range c.job_of.result (texts c.args.words.now) (returns-in-Ok-clause-job c)
+returns-in-Ok-clause-in_range c = result_in_range c.named_days.ensures.service c.job_of.result (texts c.args.words.now) (returns-in-Ok-clause-job c)
 
 pub returns-in-Ok-clause-words : goal.returns-in-Ok-clause-words
 returns-in-Ok-clause-words c = result_words c.job_of.result (texts c.args.words.now) (returns-in-Ok-clause-job c)
@@ -68,16 +68,16 @@ pub returns-in-Err-clause-check : goal.returns-in-Err-clause-check
 returns-in-Err-clause-check c = result_check (Err c.fault_of.result) (texts c.args.words.now) tt (returns-in-Err-clause-refused c)
 
 pub returns-in-Ok-clause-statement : goal.returns-in-Ok-clause-statement
-returns-in-Ok-clause-statement c = result_statement c.job_of.result (texts c.args.words.now) (returns-in-Ok-clause-job c) (returns-in-Ok-clause-refused c)
+returns-in-Ok-clause-statement c = result_statement c.job_of.result (texts c.args.words.now) (returns-in-Ok-clause-job c) (returns-in-Ok-clause-refused c) c.named_days.ensures.hyphen
 
 pub returns-in-Err-clause-statement : goal.returns-in-Err-clause-statement
-returns-in-Err-clause-statement c = result_statement (Err c.fault_of.result) (texts c.args.words.now) tt (returns-in-Err-clause-refused c)
+returns-in-Err-clause-statement c = result_statement (Err c.fault_of.result) (texts c.args.words.now) tt (returns-in-Err-clause-refused c) c.named_days.ensures.hyphen
 
 pub returns-in-Ok-clause-explain : goal.returns-in-Ok-clause-explain
-returns-in-Ok-clause-explain c = result_explain c.job_of.result (texts c.args.words.now) (returns-in-Ok-clause-job c) (returns-in-Ok-clause-refused c)
+returns-in-Ok-clause-explain c = result_explain c.job_of.result (texts c.args.words.now) (returns-in-Ok-clause-job c) (returns-in-Ok-clause-refused c) c.named_days.ensures.hyphen
 
 pub returns-in-Err-clause-explain : goal.returns-in-Err-clause-explain
-returns-in-Err-clause-explain c = result_explain (Err c.fault_of.result) (texts c.args.words.now) tt (returns-in-Err-clause-refused c)
+returns-in-Err-clause-explain c = result_explain (Err c.fault_of.result) (texts c.args.words.now) tt (returns-in-Err-clause-refused c) c.named_days.ensures.hyphen
 
 pub returns-in-Ok-clause-page : goal.returns-in-Ok-clause-page
 returns-in-Ok-clause-page c = result_page c.job_of.result (texts c.args.words.now) (returns-in-Ok-clause-job c) (returns-in-Ok-clause-refused c)
