@@ -4,6 +4,7 @@
 pub const STYLE: &str =
     "body { margin: 1em auto; max-width: 75em; padding: 0 1em; font-family: sans-serif; line-height: 1.5; overflow-wrap: anywhere; }
 nav ul { display: flex; flex-wrap: wrap; gap: 0.5em 1.5em; padding: 0; list-style: none; }
+td ul { margin: 0; padding-left: 1.2em; }
 table { margin: 1.5em 0; border-collapse: collapse; }
 caption { padding: 0.3em 0; font-weight: bold; text-align: left; }
 th, td { padding: 0.3em 0.8em 0.3em 0; border-bottom: 1px solid #767676; text-align: left; vertical-align: top; }
