@@ -10,6 +10,7 @@ use Rattle.pay_explain.specs.Amounts.{pounds_text}
 use Rattle.pay_explain.specs.Routes.{place_text}
 use Rattle.pay_html.specs.Words.{escaped}
 use Rattle.pay_page.specs.declared.posted.Posted.{Posted}
+use Rattle.pay_page.specs.declared.posted.PostedWeek.{PostedWeek}
 use Rattle.pay_page.specs.declared.posted.Posted.TheVariants.{NoLedger, Unknown, Known}
 use Rattle.pay_page.specs.Sums.{table_end}
 
@@ -78,6 +79,10 @@ abbrev pub posted_part : Named → ℕ → Posted → List ℕ
 posted_part names now NoLedger = []
 posted_part names now Unknown = codes "<h2>Posted</h2>\n<p>What was posted is not known now.</p>\n"
 posted_part names now (Known postings) = postings_part names now postings
+
+-- the same of what was posted for a week
+abbrev pub posted_of : PostedWeek → List ℕ
+posted_of week = posted_part week.operators.now week.version week.posted.now
 
 -- ---- worked rows
 

@@ -1,5 +1,5 @@
 -- The page of a week.
-use Rattle.std.specs.Prelude.{◌≡◌, ℕ, Bool, List, ◌++◌, map, filter, codes}
+use Rattle.std.specs.Prelude.{ℕ, Bool, List, ◌++◌, map, filter, codes}
 use Rattle.std.specs.List.{flat_map, zip}
 use Rattle.pay_day.specs.Words.{monday}
 use Rattle.pay_tables.specs.Words.{FareEditions}

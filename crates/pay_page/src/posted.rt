@@ -2,7 +2,7 @@
 ghost use Rattle.std.specs.Prelude.{◌≡◌, ◌++◌, IfOk, OnOk};
 ghost use Rattle.std.specs.List.{flat_map};
 ghost use Rattle.std.specs.String.{string_bytes};
-ghost use Rattle.pay_page.specs.Posted.{posted_part, posting_row, postings_part, postings_table, share_item, share_items};
+ghost use Rattle.pay_page.specs.Posted.{posted_of, posting_row, postings_part, postings_table, share_item, share_items};
 
 use crate::sums::push_table_end;
 use pay_dates::DatedDay;
@@ -249,7 +249,7 @@ pub fn push_posted(
     text: &mut String,
     week: &PostedWeek<'_>,
 ) -> Result<(), AllocError>
-    ensures { OnOk result (string_bytes text.new ≡ string_bytes text.old ++ posted_part week.now.operators.now week.now.version week.now.posted.now) }
+    ensures { OnOk result (string_bytes text.new ≡ string_bytes text.old ++ posted_of week.now) }
 {
     match week.posted {
         Posted::NoLedger => Ok(()),

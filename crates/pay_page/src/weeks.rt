@@ -5,7 +5,7 @@ ghost use Rattle.pay_day.specs.Words.{IsDay, monday};
 ghost use Rattle.pay_dates.specs.declared.dated.DatedDay.{DatedDay};
 ghost use Rattle.pay_rules.specs.Prices.{days_through};
 ghost use Rattle.pay_page.specs.Headings.{week_title};
-ghost use Rattle.pay_page.specs.Posted.{posted_part};
+ghost use Rattle.pay_page.specs.Posted.{posted_of};
 ghost use Rattle.pay_page.specs.WeekPages.{day_row, day_rows, days_part, week_page_text, week_sums};
 
 use crate::frame::{PageEnd, PageStart};
@@ -179,7 +179,7 @@ pub fn week_page(
     through: u32,
 ) -> Result<String, AllocError>
     requires { IsDay through }
-    ensures { IfOk result (λ text. string_bytes text ≡ week_page_text corrects (posted_part posted.now.operators.now posted.now.version posted.now.posted.now) editions.now (record { taps = taps.now; fixes = fixes.now }) account through) }
+    ensures { IfOk result (λ text. string_bytes text ≡ week_page_text corrects (posted_of posted.now) editions.now (record { taps = taps.now; fixes = fixes.now }) account through) }
 {
     let days = dated_days(alloc, through)?;
     let facts = week_facts(alloc, editions, taps, fixes, through)?;
