@@ -1,3 +1,3 @@
-pub mod DatesOf
+mod DatesOf
 mod Numerals
 mod ServiceDays

@@ -38,9 +38,26 @@ impl fmt::Display for DatedDay {
 
     ghost output = { λ it. Some (dated_text it.day) };
 
+    #[tactic(auto, unfolding(crate::specs::Dates::dated_text))]
     fn fmt<W: fmt::Write>(&self, f: &mut fmt::Formatter<W>) -> fmt::Result {
-        let (day, date) = (self.day, self.date);
+        let (day, date) = (self.day, CalendarDay(*self));
         write!(f, "day {day}, {date}")
+    }
+}
+
+/// A service day by its date alone, printed as `2024-01-08`.
+#[derive(Clone, Copy)]
+pub struct CalendarDay(pub DatedDay);
+
+impl fmt::Display for CalendarDay {
+    ghost use Rattle.std.specs.Prelude.{Some};
+    ghost use Rattle.pay_dates.specs.Calendar.{date_text_of};
+
+    ghost output = { λ it. Some (date_text_of it.0.day) };
+
+    fn fmt<W: fmt::Write>(&self, f: &mut fmt::Formatter<W>) -> fmt::Result {
+        let date = self.0.date;
+        write!(f, "{date}")
     }
 }
 

@@ -5,5 +5,5 @@ mod dated;
 pub mod laws;
 mod reading;
 
-pub use dated::{DatedDay, DatedWeek};
+pub use dated::{CalendarDay, DatedDay, DatedWeek};
 pub use reading::read_day;

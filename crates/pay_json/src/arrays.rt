@@ -5,8 +5,7 @@ ghost use Rattle.serde_json.specs.Written.{comma_if};
 ghost use Rattle.pay_dates.specs.Words.{date_text_of};
 ghost use Rattle.pay_json.specs.Values.{in_brackets, is_some_text};
 
-use crate::strings::CalendarDay;
-use pay_dates::DatedDay;
+use pay_dates::{CalendarDay, DatedDay};
 use std::alloc::{AllocError, Global};
 
 /// Adds a comma, if there is an object before.

@@ -1,11 +1,10 @@
-//! Texts and dates as strings of JSON.
+//! Texts as strings of JSON.
 ghost use Rattle.std.specs.Prelude.{◌≡◌, ◌<◌, encode_utf8};
 ghost use Rattle.std.specs.Char.{digit_char};
 ghost use Rattle.std.specs.Fmt.{WritesOnOk};
 ghost use Rattle.json.specs.Print.{escape};
 ghost use Rattle.pay_json.specs.Escapes.{control, HasNoLetter};
 
-use pay_dates::DatedDay;
 use std::fmt;
 
 /// A text as a string of JSON, with its quotation marks: `"a \"b\""` of `a "b"`.
@@ -15,10 +14,6 @@ pub struct Quoted<'a>(pub &'a str);
 /// A text as it stands between the quotation marks: `"`, `\` and all control characters below 32 are escaped.
 #[derive(Clone, Copy)]
 struct Escaped<'a>(&'a str);
-
-/// The date of a day: `2024-01-08`.
-#[derive(Clone, Copy)]
-pub struct CalendarDay(pub DatedDay);
 
 impl<'a> fmt::Display for Quoted<'a> {
     ghost use Rattle.std.specs.Prelude.{Some};
@@ -43,18 +38,6 @@ impl<'a> fmt::Display for Escaped<'a> {
             write_letter(f, letter)?;
         }
         Ok(())
-    }
-}
-
-impl fmt::Display for CalendarDay {
-    ghost use Rattle.std.specs.Prelude.{Some};
-    ghost use Rattle.pay_dates.specs.Words.{date_text_of};
-
-    ghost output = { λ it. Some (date_text_of it.0.day) };
-
-    fn fmt<W: fmt::Write>(&self, f: &mut fmt::Formatter<W>) -> fmt::Result {
-        let date = self.0.date;
-        write!(f, "{date}")
     }
 }
 

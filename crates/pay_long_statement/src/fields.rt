@@ -6,29 +6,12 @@ ghost use Rattle.pay_day.specs.Words.{IsDay};
 ghost use Rattle.pay_long_statement.specs.Text.{amount_text, kind_text, name_text, number_text, posted_text, signed_text, time_text};
 
 use crate::row::{Amount, RowKind};
-use pay_dates::DatedDay;
+use pay_dates::{CalendarDay, DatedDay};
 use pay_day::Moment;
 use pay_explain::{Clock, Pounds};
 use pay_money::Pence;
 use pay_names::Names;
 use std::alloc::{AllocError, Global};
-use std::fmt;
-
-/// The date of a day: `2024-01-08`.
-#[derive(Clone, Copy)]
-struct CalendarDay(DatedDay);
-
-impl fmt::Display for CalendarDay {
-    ghost use Rattle.std.specs.Prelude.{Some};
-    ghost use Rattle.pay_dates.specs.Words.{date_text_of};
-
-    ghost output = { λ it. Some (date_text_of it.0.day) };
-
-    fn fmt<W: fmt::Write>(&self, f: &mut fmt::Formatter<W>) -> fmt::Result {
-        let date = self.0.date;
-        write!(f, "{date}")
-    }
-}
 
 /// The date of a service day.
 pub fn date_text(alloc: Global, day: u32) -> Result<String, AllocError>

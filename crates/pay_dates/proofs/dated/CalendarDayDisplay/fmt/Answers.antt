@@ -1,5 +1,5 @@
 use Rattle.pay_dates.proofs.DatesOf.{dated_alike}
-use Rattle.pay_long_statement.proofs.fields.CalendarDayDisplay.fmt.Goals as goal
+use Rattle.pay_dates.proofs.dated.CalendarDayDisplay.fmt.Goals as goal
 
 pub returns-clause-writes : goal.returns-clause-writes
 returns-clause-writes g c plain ok =
