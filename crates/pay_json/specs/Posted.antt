@@ -4,12 +4,13 @@ use Rattle.std.specs.Fmt.{digits}
 use Rattle.std.specs.List.{enumerate_from}
 use Rattle.std.specs.Ordering.{int_eq}
 use Rattle.json.specs.Print.{escape_byte}
-use Rattle.serde_json.specs.Data.{Data, null, unsigned, negative, number, array, object, Members, no_members}
+use Rattle.serde_json.specs.Data.{Data, null, unsigned, negative, number, array, Members, no_members}
 use Rattle.serde_json.specs.Written.{compact_text, members_text}
 use Rattle.pay_dates.specs.Words.{date_text_of}
 use Rattle.pay_names.specs.Words.{Named}
 use Rattle.pay_rules.specs.declared.posting.Posting.{Posting}
 use Rattle.pay_page.specs.declared.posted.Posted.{Posted}
+use Rattle.pay_page.specs.declared.posted.PostedWeek.{PostedWeek}
 use Rattle.pay_page.specs.declared.posted.Posted.TheVariants.{NoLedger, Unknown, Known}
 use Rattle.pay_json.specs.Places.{place_value}
 use Rattle.pay_json.specs.Values.{all_joined, fields, items_of, whole}
@@ -62,11 +63,15 @@ postings_joined names now postings = all_joined (posting_of names now) [] postin
 abbrev pub postings_value : Named → ℕ → List Posting → Data
 postings_value names now postings = array (items_of (posting_of names now) postings)
 
--- what a week has of it: nothing where no ledger is looked at, and else its postings, or that they are not known
+-- what a week has of it, with these names of operators and this version of the account now: nothing where no ledger is looked at, and else its postings, or that they are not known
 abbrev pub posted_members : Named → ℕ → Posted → Members
 posted_members names now NoLedger = no_members
 posted_members names now Unknown = fields ((codes "posted", null) ∷ [])
 posted_members names now (Known postings) = fields ((codes "posted", postings_value names now postings) ∷ [])
+
+-- the same of what was posted for a week
+abbrev pub posted_of : PostedWeek → Members
+posted_of week = posted_members week.operators.now week.version week.posted.now
 
 -- the end of an object's text with that field, by the text of its value
 abbrev pub posted_end : List ℕ → List ℕ

@@ -21,6 +21,7 @@ use Rattle.pay_why.specs.declared.due.DueReason.{DueReason}
 use Rattle.pay_why.specs.Words.{bus_journeys, counted_credits, due_reason, week_reason}
 use Rattle.pay_explain.specs.declared.facts.PricedDay.{PricedDay}
 use Rattle.pay_explain.specs.Facts.{priced}
+use Rattle.pay_json.specs.declared.weeks.WeekDocument.{WeekDocument}
 use Rattle.pay_json.specs.Sums.{band_value, sums_value}
 use Rattle.pay_json.specs.Values.{all_joined, fields, items_of, whole, with_fields}
 
@@ -94,6 +95,10 @@ week_document account currency from through days reason credits due end =
     ++ (quoted currency
     ++ (codes ",\"from\":"
     ++ (compact_text from ++ (codes ",\"through\":" ++ (compact_text through ++ (codes ",\"days\":" ++ (days ++ week_parts reason credits due end)))))))))
+
+abbrev pub document_text : WeekDocument → List ℕ
+document_text it =
+    week_document it.account it.currency.now (dated_value it.from it.from_date.now) (dated_value it.through it.through_date.now) it.days.now it.reason it.credits.now it.due it.end.now
 
 -- ---- worked rows, of account 7 and the week from 2024-01-08
 

@@ -2,7 +2,7 @@
 ghost use Rattle.std.specs.Prelude.{◌≡◌, true, IfOk, OnOk};
 ghost use Rattle.std.specs.String.{string_bytes};
 ghost use Rattle.serde_json.specs.Written.{compact_text, members_text};
-ghost use Rattle.pay_json.specs.Posted.{posted_end, posted_members, posting_of, postings_joined, postings_value, share_of, shares_joined, shares_value};
+ghost use Rattle.pay_json.specs.Posted.{posted_end, posted_of, posting_of, postings_joined, postings_value, share_of, shares_joined, shares_value};
 ghost use Rattle.pay_json.specs.Values.{joined};
 
 use crate::arrays::{date_of, in_brackets, push_comma};
@@ -242,7 +242,7 @@ fn end_with(alloc: Global, value: &str) -> Result<String, AllocError>
 /// The end of the document of a week, with what was posted where a ledger is looked at.
 #[tactic(auto, unfolding(json::specs::Print::escape_byte))]
 pub fn week_end(alloc: Global, week: &PostedWeek<'_>) -> Result<String, AllocError>
-    ensures { IfOk result (λ text. string_bytes text ≡ members_text true (posted_members week.now.operators.now week.now.version week.now.posted.now)) }
+    ensures { IfOk result (λ text. string_bytes text ≡ members_text true (posted_of week.now)) }
 {
     match week.posted {
         Posted::NoLedger => String::from_str(alloc, "}"),

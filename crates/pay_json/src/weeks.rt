@@ -5,7 +5,7 @@ ghost use Rattle.serde_json.specs.Written.{compact_text};
 ghost use Rattle.pay_day.specs.Words.{IsDay};
 ghost use Rattle.pay_dates.specs.declared.dated.DatedDay.{DatedDay};
 ghost use Rattle.pay_rules.specs.Prices.{days_through};
-ghost use Rattle.pay_json.specs.Posted.{posted_members};
+ghost use Rattle.pay_json.specs.Posted.{posted_of};
 ghost use Rattle.pay_json.specs.Values.{joined};
 ghost use Rattle.pay_json.specs.Weeks.{credit_of, credits_joined, credits_value, days_joined, days_value, priced_day, week_value};
 
@@ -154,9 +154,9 @@ impl<'a> fmt::Display for WeekParts<'a> {
 
 impl<'a> fmt::Display for WeekDocument<'a> {
     ghost use Rattle.std.specs.Prelude.{Some};
-    ghost use Rattle.pay_json.specs.Weeks.{dated_value, week_document};
+    ghost use Rattle.pay_json.specs.Weeks.{document_text};
 
-    ghost output = { λ it. Some (week_document it.account it.currency.now (dated_value it.from it.from_date.now) (dated_value it.through it.through_date.now) it.days.now it.reason it.credits.now it.due it.end.now) };
+    ghost output = { λ it. Some (document_text it) };
 
     #[tactic(auto, unfolding(crate::specs::Weeks::week_document))]
     fn fmt<W: fmt::Write>(&self, f: &mut fmt::Formatter<W>) -> fmt::Result {
@@ -300,7 +300,7 @@ pub fn week_json(
     through: u32,
 ) -> Result<String, AllocError>
     requires { IsDay through }
-    ensures { IfOk result (λ text. string_bytes text ≡ compact_text (week_value (posted_members posted.now.operators.now posted.now.version posted.now.posted.now) currency.now editions.now (record { taps = taps.now; fixes = fixes.now }) account through)) }
+    ensures { IfOk result (λ text. string_bytes text ≡ compact_text (week_value (posted_of posted.now) currency.now editions.now (record { taps = taps.now; fixes = fixes.now }) account through)) }
 {
     let list = dated_days(alloc, through)?;
     let facts = week_facts(alloc, editions, taps, fixes, through)?;

@@ -1,7 +1,7 @@
 use Rattle.std.proofs.Common.{List, ℕ, ◌++◌, map, ◌∙◌, ap}
 use Rattle.pay_dates.specs.Words.{date_text_of}
 use Rattle.pay_dates.specs.declared.dated.DatedDay.{DatedDay}
-use Rattle.pay_json.specs.Posted.{posted_members}
+use Rattle.pay_json.specs.Posted.{posted_of}
 use Rattle.pay_json.specs.Weeks.{dated_value, week_document}
 use Rattle.pay_json.proofs.Documents.{week_is}
 use Rattle.pay_json.proofs.weeks.week_json.Goals as goal
@@ -13,7 +13,7 @@ returns c =
     let days = c.as_str-days.result.now in
     let credits = c.as_str-credits.result.now in
     let end = c.as_str.result.now in
-    let told = posted_members c.args.posted.now.operators.now c.args.posted.now.version c.args.posted.now.posted.now in
+    let told = posted_of c.args.posted.now in
     let facts = c.in_ok-facts.facts in
     let document =
     week_document c.args.account c.args.currency.now (dated_value c.monday-monday.result first) (dated_value c.args.through last) days facts.reason credits c.due_reason-due.result end in
