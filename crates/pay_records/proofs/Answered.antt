@@ -1,7 +1,7 @@
 -- What each SELECT of the ledger shows.
-use Rattle.std.proofs.Common.{◌≡◌, ℕ, ℤ, pos, Bool, true, false, cond, ◌&&◌, ◌<ℤ◌, Ok, List, [], ◌∷◌, ◌++◌, map, filter, flat_map, drop, Option, Some, None, unwrap_or, ◌^◌, refl, sym, ap, ap₂, subst, ◌∙◌, arith, Less, Equal, IsPermutation}
+use Rattle.std.proofs.Common.{◌≡◌, ℕ, ℤ, pos, Bool, true, false, cond, ◌&&◌, ◌<ℤ◌, int_le, Ok, List, [], ◌∷◌, ◌++◌, map, filter, flat_map, drop, Option, Some, None, unwrap_or, ◌^◌, refl, sym, ap, ap₂, subst, ◌∙◌, arith, Less, Equal, IsPermutation}
 use Rattle.std.specs.List.{AllByRecursion, list_all}
-use Rattle.std.specs.Ordering.{int_eq, is_eq, ordering_then}
+use Rattle.std.specs.Ordering.{int_eq, int_cmp, ordering_then}
 use Rattle.pay_records.proofs.Rises.{below}
 use Rattle.std.proofs.lemmas.Int.{ints}
 use Rattle.std.proofs.lemmas.List.Sorted.{IsPermutation-map, All-permutation}
@@ -21,8 +21,9 @@ use Rattle.sqlite.specs.Schema.{Schema}
 use Rattle.sqlite.specs.Tree.{Trees}
 use Rattle.sqlite.specs.Term.{Term, Env, col}
 use Rattle.sqlite.specs.Query.{Query, IsAnswer, output, output_cmp, inner, end, matches}
-use Rattle.sqlite_sql.specs.Ops.{binary, is_true, from_truth}
-use Rattle.sqlite_sql.specs.declared.ops.CompareOp.TheVariants.{Eq}
+use Rattle.sqlite_sql.specs.Ops.{binary, is_true, from_truth, test}
+use Rattle.sqlite_sql.specs.declared.ops.CompareOp.{CompareOp}
+use Rattle.sqlite_sql.specs.declared.ops.CompareOp.TheVariants.{Eq, Ge, Le}
 use Rattle.sqlite_sql.specs.declared.ops.BinaryOp.TheVariants.{Compare}
 use Rattle.sqlite_value.specs.declared.keys.Collation.TheVariants.{Binary}
 use Rattle.sqlite.specs.Clock.{timed}
@@ -35,8 +36,8 @@ use Rattle.pay_rows.specs.declared.row.ShareRow.{ShareRow}
 use Rattle.pay_rows.specs.declared.row.TapRow.{TapRow}
 use Rattle.pay_rows.specs.declared.row.FixRow.{FixRow}
 use Rattle.pay_records.specs.Rows.{LedgerRows, HoldsRows, RiseFrom, AreNumbers, share_numbers, tap_numbers, fix_numbers, posting_row}
-use Rattle.pay_records.specs.Found.{shares_of, posted_accounts, tapped_accounts, fixed_accounts}
-use Rattle.pay_records.proofs.SelectTexts.{IsQuery, is_given, by_rowid, select_postings, select_shares, select_taps, select_fixes, select_all_taps, select_all_fixes, select_posted_accounts, select_tapped_accounts, select_fixed_accounts, posted_accounts_query, accounts_query, postings_query, shares_query, taps_query, fixes_query, all_taps_query, all_fixes_query}
+use Rattle.pay_records.specs.Found.{is_between, shares_between, taps_between, fixes_between, posted_accounts, tapped_accounts, fixed_accounts}
+use Rattle.pay_records.proofs.SelectTexts.{IsQuery, is_between_given, by_rowid, select_postings, select_shares, select_taps, select_fixes, select_all_taps, select_all_fixes, select_posted_accounts, select_tapped_accounts, select_fixed_accounts, posted_accounts_query, accounts_query, postings_query, shares_query, taps_query, fixes_query, all_taps_query, all_fixes_query}
 use Rattle.pay_records.proofs.Queries.{select_postings_is, select_taps_is, select_fixes_is, select_all_taps_is, select_all_fixes_is, select_posted_accounts_is, select_tapped_accounts_is, select_fixed_accounts_is}
 use Rattle.pay_records.proofs.Joining.{select_shares_is}
 use Rattle.pay_records.proofs.Placed.{opened}
@@ -67,22 +68,28 @@ numbered numbers low ((v ∷ vs) ∷ rs) (x ∷ xs) up is =
     let tail : vs ≡ map Int (numbers x) = cc in
     ((up.0, x) ∷ rest.0, ap₂ (λ (r : Row) (l : List Row). r ∷ l) (ap₂ (λ (a : Value) (b : Row). a ∷ b) id tail) rest.1, ap (λ l. x ∷ l) rest.2)
 
--- a column that is the parameter, or that of another table
-same_number : (a b : ℤ) → is_true (binary (Compare Eq Binary) (Int a) (Int b)) ≡ int_eq a b
+-- a column against another one, or against a parameter
+compared_numbers : (op : CompareOp) (a b : ℤ) → is_true (binary (Compare op Binary) (Int a) (Int b)) ≡ test op (int_cmp a b)
 unfolding binary
-same_number a b = go (is_eq (value_cmp (Int a) (Int b))) ∙ ap is_eq (value_cmp-Int a b)
+compared_numbers op a b = go (test op (value_cmp (Int a) (Int b))) ∙ ap (test op) (value_cmp-Int a b)
   where
     go : (b : Bool) → is_true (from_truth (Some b)) ≡ b
     go true = refl
     go false = refl
 
+at_least : (a b : ℤ) → test Ge (int_cmp a b) ≡ int_le b a
+at_least a b = grind (arith, ints)
+
+at_most : (a b : ℤ) → test Le (int_cmp a b) ≡ int_le a b
+at_most a b = grind (arith, ints)
+
 and_true : (b : Bool) → b && true ≡ b
 and_true true = refl
 and_true false = refl
 
-and_false : (b : Bool) → b && false ≡ false
-and_false true = refl
-and_false false = refl
+-- an account that is between the parameters
+between_holds : (from through account : ℤ) → is_true (binary (Compare Ge Binary) (Int account) (Int from)) && (is_true (binary (Compare Le Binary) (Int account) (Int through)) && true) ≡ is_between from through account
+between_holds from through account = ap₂ ◌&&◌ (compared_numbers Ge account from ∙ at_least account from) (and_true _ ∙ compared_numbers Le account through ∙ at_most account through)
 
 -- a query with no tables of its own reads those of the database
 no_table : (b : Bool) → ◌≡◌ {A = Option (List Row)} (cond b None None) None
@@ -119,43 +126,59 @@ pub every : {X : Type 0} (xs : List X) → filter (λ _. true) xs ≡ xs
 every [] = refl
 every (x ∷ xs) = ap (λ l. x ∷ l) (every xs)
 
--- ---- shares: each posting of the account beside each of its shares
+-- ---- shares: each posting of a stretch beside each of its shares
+
+-- a test of all at once
+filter_if : {X : Type 0} (p : X → Bool) (b : Bool) (xs : List X) → filter (λ x. p x && b) xs ≡ cond b (filter p xs) []
+filter_if p true xs = filter_same (λ x. p x && true) p (λ x. and_true (p x)) xs
+filter_if p false [] = refl
+filter_if p false (x ∷ xs) = go (p x) (filter_if p false xs)
+  where
+    go : (b : Bool) → filter (λ x. p x && false) xs ≡ [] → cond (b && false) (x ∷ filter (λ x. p x && false) xs) (filter (λ x. p x && false) xs) ≡ []
+    go true none = none
+    go false none = none
+
+flat_map_if : {X Y : Type 0} (pass : X → Bool) (of : X → List Y) (xs : List X) → flat_map (λ x. cond (pass x) (of x) []) xs ≡ flat_map of (filter pass xs)
+flat_map_if pass of [] = refl
+flat_map_if pass of (x ∷ xs) = ap (λ l. cond (pass x) (of x) [] ++ l) (flat_map_if pass of xs) ∙ go (pass x)
+  where
+    go : (b : Bool) → cond b (of x) [] ++ flat_map of (filter pass xs) ≡ flat_map of (cond b (x ∷ filter pass xs) (filter pass xs))
+    go true = refl
+    go false = refl
+
+map_if : {X Y : Type 0} (f : X → Y) (b : Bool) (xs : List X) → map f (cond b xs []) ≡ cond b (map f xs) []
+map_if f true xs = refl
+map_if f false xs = refl
 
 share_env : Row → ℤ × ℤ × PostingRow → ℤ × ShareRow → Env
 share_env params p s = params ∷ posting_row p ∷ (Int s.0 ∷ map Int (share_numbers s.1)) ∷ []
 
-passes : ℤ → ℤ × ℤ × PostingRow → ShareRow → Bool
-passes account p s = int_eq s.posting p.0 && int_eq p.1 account
+abbrev is_of : ℤ × ℤ × PostingRow → ShareRow → Bool
+is_of p s = int_eq s.posting p.0
 
-picked : (account : ℤ) (shares : List ShareRow) (postings : List (ℤ × ℤ × PostingRow))
-    → flat_map (λ p. filter (passes account p) shares) postings
-    ≡ flat_map (λ (p : ℤ × PostingRow). filter (λ (s : ShareRow). int_eq s.posting p.0) shares) (map (λ (p : ℤ × ℤ × PostingRow). (p.0, p.2)) (filter (λ (p : ℤ × ℤ × PostingRow). int_eq p.1 account) postings))
-unfolding passes
-picked account shares [] = refl
-picked account shares (p ∷ ps) =
-    ap₂ ◌++◌ (filter_same (passes account p) (λ s. int_eq s.posting p.0 && int_eq p.1 account) (λ s. refl) shares) (picked account shares ps)
-    ∙ here (int_eq p.1 account)
-  where
-    rest : List ShareRow
-    rest = flat_map (λ (p : ℤ × PostingRow). filter (λ (s : ShareRow). int_eq s.posting p.0) shares) (map (λ (p : ℤ × ℤ × PostingRow). (p.0, p.2)) (filter (λ (p : ℤ × ℤ × PostingRow). int_eq p.1 account) ps))
+-- a share beside its account
+abbrev pub beside_share : ℤ × ShareRow → List ℤ
+beside_share s = s.0 ∷ share_numbers s.1
 
-    none : (ss : List ShareRow) → filter (λ s. int_eq s.posting p.0 && false) ss ≡ []
-    none [] = refl
-    none (s ∷ ss) = ap (λ b. cond b (s ∷ filter (λ s. int_eq s.posting p.0 && false) ss) (filter (λ s. int_eq s.posting p.0 && false) ss)) (and_false (int_eq s.posting p.0)) ∙ none ss
+-- those of each posting
+abbrev shown_with : List ShareRow → ℤ × ℤ × PostingRow → List Row
+shown_with shares p = map (λ s. map Int (beside_share (p.1, s))) (filter (is_of p) shares)
 
-    here : (b : Bool) → filter (λ s. int_eq s.posting p.0 && b) shares ++ flat_map (λ (p : ℤ × PostingRow). filter (λ (s : ShareRow). int_eq s.posting p.0) shares) (map (λ (p : ℤ × ℤ × PostingRow). (p.0, p.2)) (filter (λ (p : ℤ × ℤ × PostingRow). int_eq p.1 account) ps))
-        ≡ flat_map (λ (p : ℤ × PostingRow). filter (λ (s : ShareRow). int_eq s.posting p.0) shares) (map (λ (p : ℤ × ℤ × PostingRow). (p.0, p.2)) (cond b (p ∷ filter (λ (p : ℤ × ℤ × PostingRow). int_eq p.1 account) ps) (filter (λ (p : ℤ × ℤ × PostingRow). int_eq p.1 account) ps)))
-    here true = ap (λ l. l ++ flat_map (λ (p : ℤ × PostingRow). filter (λ (s : ShareRow). int_eq s.posting p.0) shares) (map (λ (p : ℤ × ℤ × PostingRow). (p.0, p.2)) (filter (λ (p : ℤ × ℤ × PostingRow). int_eq p.1 account) ps)))
-        (filter_same (λ s. int_eq s.posting p.0 && true) (λ (s : ShareRow). int_eq s.posting p.0) (λ s. and_true _) shares)
-    here false = ap (λ l. l ++ flat_map (λ (p : ℤ × PostingRow). filter (λ (s : ShareRow). int_eq s.posting p.0) shares) (map (λ (p : ℤ × ℤ × PostingRow). (p.0, p.2)) (filter (λ (p : ℤ × ℤ × PostingRow). int_eq p.1 account) ps)))
-        (none shares)
+shown_between : (from through : ℤ) (l : LedgerRows) → flat_map (shown_with l.shares) (filter (λ (p : ℤ × ℤ × PostingRow). is_between from through p.1) l.postings) ≡ map (λ s. map Int (beside_share s)) (shares_between from through l)
+shown_between from through l =
+    let some = filter (λ (p : ℤ × ℤ × PostingRow). is_between from through p.1) l.postings in
+    let beside : ℤ × ℤ × PostingRow → ℤ × (ℤ × PostingRow) = λ (p : ℤ × ℤ × PostingRow). (p.1, (p.0, p.2)) in
+    let of : ℤ × (ℤ × PostingRow) → List (ℤ × ShareRow) = λ (p : ℤ × (ℤ × PostingRow)). map (λ (s : ShareRow). (p.0, s)) (filter (λ (s : ShareRow). int_eq s.posting p.1.0) l.shares) in
+    flat_map_same_on (shown_with l.shares) (λ p. map (λ s. map Int (beside_share s)) (of (beside p))) (λ p. sym (map-map (λ s. map Int (beside_share s)) (λ (s : ShareRow). (p.1, s)) (filter (is_of p) l.shares))) some
+    ∙ sym (map-flat_map (λ s. map Int (beside_share s)) (λ p. of (beside p)) some)
+    ∙ ap (map (λ s. map Int (beside_share s))) (sym (flat_map-map of beside some))
 
-pub shares_shown_in : (schema : Schema) (first second : ℕ) (names : List (List ℕ)) → IsQuery schema select_shares (shares_query first second) names → (account : ℤ) (old new : State) (rows : List Row) → old.now.schema ≡ schema
-    → Shown select_shares (Int account ∷ []) old new rows → (l : LedgerRows) → old.now.trees first ≡ map posting_row l.postings → AreNumbers (old.now.trees second) (map share_numbers l.shares)
-    → Shows share_numbers (shares_of account l) old new rows
-unfolding passes share_env
-shares_shown_in schema first second names query account old new rows has h l postings shares =
-    let params = Int account ∷ [] in
+pub shares_shown_in : (schema : Schema) (first second : ℕ) (names : List (List ℕ)) → IsQuery schema select_shares (shares_query first second) names → (from through : ℤ) (old new : State) (rows : List Row) → old.now.schema ≡ schema
+    → Shown select_shares (Int from ∷ Int through ∷ []) old new rows → (l : LedgerRows) → old.now.trees first ≡ map posting_row l.postings → AreNumbers (old.now.trees second) (map share_numbers l.shares)
+    → Shows beside_share (shares_between from through l) old new rows
+unfolding share_env
+shares_shown_in schema first second names query from through old new rows has h l postings shares =
+    let params = Int from ∷ Int through ∷ [] in
     let db = overlay old.now.trees [] in
     let q = shares_query first second in
     let it = shown_by_query schema select_shares q names query params old new rows has h in
@@ -164,29 +187,33 @@ shares_shown_in schema first second names query account old new rows has h l pos
     let row : ℤ × ShareRow → Row = λ (s : ℤ × ShareRow). Int s.0 ∷ map Int (share_numbers s.1) in
     let of : Row → List Env = λ r. matches db q.filter (inner second end) (params ∷ r ∷ []) in
     let show : Env → Row = λ env. (output q env).1 in
-    let one : (p : ℤ × ℤ × PostingRow) → map show (of (posting_row p)) ≡ map (λ s. map Int (share_numbers s)) (filter (passes account p) l.shares) = λ p.
-    ap (map show) (passing second q.filter (params ∷ posting_row p ∷ []) db row (λ s. passes account p s.1) (λ s. ap₂ ◌&&◌ (same_number s.1.posting p.0) (and_true _ ∙ same_number p.1 account)) known.0 (overlay_is old.now.trees second ∙ known.1))
-    ∙ map-map show (share_env params p) (filter (λ s. passes account p s.1) known.0)
-    ∙ sym (map-map (λ x. map Int (share_numbers x)) (λ (s : ℤ × ShareRow). s.1) (filter (λ s. passes account p s.1) known.0))
-    ∙ ap (map (λ x. map Int (share_numbers x))) (sym (filter-map (passes account p) (λ (s : ℤ × ShareRow). s.1) known.0) ∙ ap (filter (passes account p)) known.2) in
-    let seen : map (λ (o : Output). o.1) (map (output q) (matches db q.filter q.from (params ∷ []))) ≡ map (λ s. map Int (share_numbers s)) (shares_of account l) =
+    let pass : ℤ × ℤ × PostingRow → Bool = λ (p : ℤ × ℤ × PostingRow). is_between from through p.1 in
+    let passes : ℤ × ℤ × PostingRow → ShareRow → Bool = λ p s. is_of p s && pass p in
+    let one : (p : ℤ × ℤ × PostingRow) → map show (of (posting_row p)) ≡ cond (pass p) (shown_with l.shares p) [] = λ p.
+    let beside : ShareRow → Row = λ s. map Int (beside_share (p.1, s)) in
+    ap (map show) (passing second q.filter (params ∷ posting_row p ∷ []) db row (λ s. passes p s.1) (λ s. ap₂ ◌&&◌ (compared_numbers Eq s.1.posting p.0) (between_holds from through p.1)) known.0 (overlay_is old.now.trees second ∙ known.1))
+    ∙ map-map show (share_env params p) (filter (λ s. passes p s.1) known.0)
+    ∙ sym (map-map beside (λ (s : ℤ × ShareRow). s.1) (filter (λ s. passes p s.1) known.0))
+    ∙ ap (map beside) (sym (filter-map (passes p) (λ (s : ℤ × ShareRow). s.1) known.0) ∙ ap (filter (passes p)) known.2 ∙ filter_if (is_of p) (pass p) l.shares)
+    ∙ map_if beside (pass p) (filter (is_of p) l.shares) in
+    let seen : map (λ (o : Output). o.1) (map (output q) (matches db q.filter q.from (params ∷ []))) ≡ map (λ s. map Int (beside_share s)) (shares_between from through l) =
     map-map (λ (o : Output). o.1) (output q) _
     ∙ ap (λ r. map show (flat_map of r)) (overlay_is old.now.trees first ∙ postings)
     ∙ map-flat_map show of (map posting_row l.postings)
     ∙ flat_map-map (λ r. map show (of r)) posting_row l.postings
-    ∙ flat_map_same_on (λ p. map show (of (posting_row p))) (λ p. map (λ s. map Int (share_numbers s)) (filter (passes account p) l.shares)) one l.postings
-    ∙ sym (map-flat_map (λ s. map Int (share_numbers s)) (λ p. filter (passes account p) l.shares) l.postings)
-    ∙ ap (map (λ s. map Int (share_numbers s))) (picked account l.shares l.postings) in
+    ∙ flat_map_same_on (λ p. map show (of (posting_row p))) (λ p. cond (pass p) (shown_with l.shares p) []) one l.postings
+    ∙ flat_map_if pass (shown_with l.shares) l.postings
+    ∙ shown_between from through l in
     record {
       same = subst (λ l. IsPermutation l rows) seen (subst (λ r. IsPermutation (map (λ (o : Output). o.1) (map (output q) (matches db q.filter q.from (params ∷ [])))) r) (sym found.shown) (IsPermutation-map (λ (o : Output). o.1) _ _ found.same));
       unchanged = it.1;
     }
 
-pub shares_shown : (account : ℤ) (old new : State) (rows : List Row) → Shown select_shares (Int account ∷ []) old new rows → (l : LedgerRows) → HoldsRows old.now l
-    → Shows share_numbers (shares_of account l) old new rows
-shares_shown account old new rows h l held =
+pub shares_shown : (from through : ℤ) (old new : State) (rows : List Row) → Shown select_shares (Int from ∷ Int through ∷ []) old new rows → (l : LedgerRows) → HoldsRows old.now l
+    → Shows beside_share (shares_between from through l) old new rows
+shares_shown from through old new rows h l held =
     let at = opened old.now l held in
-    shares_shown_in old.now.schema at.0.postings.table.tree at.0.shares.table.tree _ (select_shares_is old.now.schema at.0.postings at.0.shares at.1.has_postings at.1.has_shares) account old new rows refl h l at.2.postings at.2.shares
+    shares_shown_in old.now.schema at.0.postings.table.tree at.0.shares.table.tree _ (select_shares_is old.now.schema at.0.postings at.0.shares at.1.has_postings at.1.has_shares) from through old new rows refl h l at.2.postings at.2.shares
 
 -- ---- in the order in which rows were written
 
@@ -243,49 +270,45 @@ module _ {X : Type 0} (numbers shown : X → List ℤ) (pass : X → Bool) (tree
       ∙ sym (map-map (λ x. map Int (shown x)) (λ (p : ℤ × X). p.1) (filter (λ p. pass p.1) known.0))
       ∙ ap (map (λ x. map Int (shown x))) (sym (filter-map pass (λ (p : ℤ × X). p.1) known.0) ∙ ap (filter pass) known.2)
 
-abbrev pub tap_shown : ℤ × TapRow → List ℤ
-tap_shown t = drop 1 (tap_numbers t)
-
-abbrev pub fix_shown : ℤ × FixRow → List ℤ
-fix_shown f = drop 1 (fix_numbers f)
-
 -- the rows of a table as a query reads them
 over : (db : Trees) (tree : ℕ) (numbers : List (List ℤ)) → AreNumbers (db tree) numbers → AreNumbers (overlay db [] tree) numbers
 over db tree numbers are = subst (λ r. AreNumbers r numbers) (sym (overlay_is db tree)) are
 
-pub taps_shown_in : (schema : Schema) (tree : ℕ) (names : List (List ℕ)) → IsQuery schema select_taps (taps_query tree) names → (account : ℤ) (old new : State) (rows : List Row) → old.now.schema ≡ schema
-    → Shown select_taps (Int account ∷ []) old new rows → (all : List (ℤ × TapRow)) → AreNumbers (old.now.trees tree) (map tap_numbers all)
-    → ShowsInOrder tap_shown (filter (λ (t : ℤ × TapRow). int_eq t.0 account) all) old new rows
-taps_shown_in schema tree names query account old new rows has h all are =
-    let it = shown_by_query schema select_taps (taps_query tree) names query (Int account ∷ []) old new rows has h in
+pub taps_shown_in : (schema : Schema) (tree : ℕ) (names : List (List ℕ)) → IsQuery schema select_taps (taps_query tree) names → (from through : ℤ) (old new : State) (rows : List Row) → old.now.schema ≡ schema
+    → Shown select_taps (Int from ∷ Int through ∷ []) old new rows → (all : List (ℤ × TapRow)) → AreNumbers (old.now.trees tree) (map tap_numbers all)
+    → ShowsInOrder tap_numbers (filter (λ (t : ℤ × TapRow). is_between from through t.0) all) old new rows
+taps_shown_in schema tree names query from through old new rows has h all are =
+    let params = Int from ∷ Int through ∷ [] in
+    let it = shown_by_query schema select_taps (taps_query tree) names query params old new rows has h in
     record {
-      are = shows_in_order tap_numbers tap_shown (λ (t : ℤ × TapRow). int_eq t.0 account) tree (is_given 1 ∷ []) (taps_query tree).project (Int account ∷ [])
-          (λ id t. and_true _ ∙ same_number t.0 account) (λ id t. refl) (overlay old.now.trees []) all (over old.now.trees tree (map tap_numbers all) are) rows it.0;
+      are = shows_in_order tap_numbers tap_numbers (λ (t : ℤ × TapRow). is_between from through t.0) tree (is_between_given 1) (taps_query tree).project params
+          (λ id t. between_holds from through t.0) (λ id t. refl) (overlay old.now.trees []) all (over old.now.trees tree (map tap_numbers all) are) rows it.0;
       unchanged = it.1;
     }
 
-pub taps_shown : (account : ℤ) (old new : State) (rows : List Row) → Shown select_taps (Int account ∷ []) old new rows → (l : LedgerRows) → HoldsRows old.now l
-    → ShowsInOrder tap_shown (filter (λ (t : ℤ × TapRow). int_eq t.0 account) l.taps) old new rows
-taps_shown account old new rows h l held =
+pub taps_shown : (from through : ℤ) (old new : State) (rows : List Row) → Shown select_taps (Int from ∷ Int through ∷ []) old new rows → (l : LedgerRows) → HoldsRows old.now l
+    → ShowsInOrder tap_numbers (taps_between from through l) old new rows
+taps_shown from through old new rows h l held =
     let at = opened old.now l held in
-    taps_shown_in old.now.schema at.0.taps.table.tree _ (select_taps_is old.now.schema at.0.taps at.1.has_taps) account old new rows refl h l.taps at.2.taps
+    taps_shown_in old.now.schema at.0.taps.table.tree _ (select_taps_is old.now.schema at.0.taps at.1.has_taps) from through old new rows refl h l.taps at.2.taps
 
-pub fixes_shown_in : (schema : Schema) (tree : ℕ) (names : List (List ℕ)) → IsQuery schema select_fixes (fixes_query tree) names → (account : ℤ) (old new : State) (rows : List Row) → old.now.schema ≡ schema
-    → Shown select_fixes (Int account ∷ []) old new rows → (all : List (ℤ × FixRow)) → AreNumbers (old.now.trees tree) (map fix_numbers all)
-    → ShowsInOrder fix_shown (filter (λ (f : ℤ × FixRow). int_eq f.0 account) all) old new rows
-fixes_shown_in schema tree names query account old new rows has h all are =
-    let it = shown_by_query schema select_fixes (fixes_query tree) names query (Int account ∷ []) old new rows has h in
+pub fixes_shown_in : (schema : Schema) (tree : ℕ) (names : List (List ℕ)) → IsQuery schema select_fixes (fixes_query tree) names → (from through : ℤ) (old new : State) (rows : List Row) → old.now.schema ≡ schema
+    → Shown select_fixes (Int from ∷ Int through ∷ []) old new rows → (all : List (ℤ × FixRow)) → AreNumbers (old.now.trees tree) (map fix_numbers all)
+    → ShowsInOrder fix_numbers (filter (λ (f : ℤ × FixRow). is_between from through f.0) all) old new rows
+fixes_shown_in schema tree names query from through old new rows has h all are =
+    let params = Int from ∷ Int through ∷ [] in
+    let it = shown_by_query schema select_fixes (fixes_query tree) names query params old new rows has h in
     record {
-      are = shows_in_order fix_numbers fix_shown (λ (f : ℤ × FixRow). int_eq f.0 account) tree (is_given 1 ∷ []) (fixes_query tree).project (Int account ∷ [])
-          (λ id f. and_true _ ∙ same_number f.0 account) (λ id f. refl) (overlay old.now.trees []) all (over old.now.trees tree (map fix_numbers all) are) rows it.0;
+      are = shows_in_order fix_numbers fix_numbers (λ (f : ℤ × FixRow). is_between from through f.0) tree (is_between_given 1) (fixes_query tree).project params
+          (λ id f. between_holds from through f.0) (λ id f. refl) (overlay old.now.trees []) all (over old.now.trees tree (map fix_numbers all) are) rows it.0;
       unchanged = it.1;
     }
 
-pub fixes_shown : (account : ℤ) (old new : State) (rows : List Row) → Shown select_fixes (Int account ∷ []) old new rows → (l : LedgerRows) → HoldsRows old.now l
-    → ShowsInOrder fix_shown (filter (λ (f : ℤ × FixRow). int_eq f.0 account) l.fixes) old new rows
-fixes_shown account old new rows h l held =
+pub fixes_shown : (from through : ℤ) (old new : State) (rows : List Row) → Shown select_fixes (Int from ∷ Int through ∷ []) old new rows → (l : LedgerRows) → HoldsRows old.now l
+    → ShowsInOrder fix_numbers (fixes_between from through l) old new rows
+fixes_shown from through old new rows h l held =
     let at = opened old.now l held in
-    fixes_shown_in old.now.schema at.0.fixes.table.tree _ (select_fixes_is old.now.schema at.0.fixes at.1.has_fixes) account old new rows refl h l.fixes at.2.fixes
+    fixes_shown_in old.now.schema at.0.fixes.table.tree _ (select_fixes_is old.now.schema at.0.fixes at.1.has_fixes) from through old new rows refl h l.fixes at.2.fixes
 
 -- of a whole table
 pub all_taps_shown_in : (schema : Schema) (tree : ℕ) (names : List (List ℕ)) → IsQuery schema select_all_taps (all_taps_query tree) names → (old new : State) (rows : List Row) → old.now.schema ≡ schema
@@ -323,24 +346,25 @@ all_fixes_shown old new rows h l held =
 -- ---- postings
 
 abbrev pub posting_shown : ℤ × ℤ × PostingRow → List ℤ
-posting_shown p = p.0 ∷ p.2.week ∷ p.2.through ∷ p.2.version ∷ p.2.due ∷ p.2.amount ∷ p.2.edition ∷ []
+posting_shown p = p.1 ∷ p.0 ∷ p.2.week ∷ p.2.through ∷ p.2.version ∷ p.2.due ∷ p.2.amount ∷ p.2.edition ∷ []
 
-pub postings_shown_in : (schema : Schema) (tree : ℕ) (names : List (List ℕ)) → IsQuery schema select_postings (postings_query tree) names → (account : ℤ) (old new : State) (rows : List Row) → old.now.schema ≡ schema
-    → Shown select_postings (Int account ∷ []) old new rows → (all : List (ℤ × ℤ × PostingRow)) → old.now.trees tree ≡ map posting_row all → RiseFrom (pos 0) (old.now.trees tree)
-    → ShowsInOrder posting_shown (filter (λ (p : ℤ × ℤ × PostingRow). int_eq p.1 account) all) old new rows
-postings_shown_in schema tree names query account old new rows has h all are rise =
-    let it = shown_by_query schema select_postings (postings_query tree) names query (Int account ∷ []) old new rows has h in
+pub postings_shown_in : (schema : Schema) (tree : ℕ) (names : List (List ℕ)) → IsQuery schema select_postings (postings_query tree) names → (from through : ℤ) (old new : State) (rows : List Row) → old.now.schema ≡ schema
+    → Shown select_postings (Int from ∷ Int through ∷ []) old new rows → (all : List (ℤ × ℤ × PostingRow)) → old.now.trees tree ≡ map posting_row all → RiseFrom (pos 0) (old.now.trees tree)
+    → ShowsInOrder posting_shown (filter (λ (p : ℤ × ℤ × PostingRow). is_between from through p.1) all) old new rows
+postings_shown_in schema tree names query from through old new rows has h all are rise =
+    let params = Int from ∷ Int through ∷ [] in
+    let it = shown_by_query schema select_postings (postings_query tree) names query params old new rows has h in
     record {
-      are = in_order posting_row (λ (p : ℤ × ℤ × PostingRow). p.0) (λ p. refl) tree (postings_query tree).filter (postings_query tree).project (Int account ∷ []) (overlay old.now.trees [])
-          (λ (p : ℤ × ℤ × PostingRow). int_eq p.1 account) (λ p. and_true _ ∙ same_number p.1 account) all (overlay_is old.now.trees tree ∙ are) (subst (RiseFrom (pos 0)) are rise) rows it.0;
+      are = in_order posting_row (λ (p : ℤ × ℤ × PostingRow). p.0) (λ p. refl) tree (postings_query tree).filter (postings_query tree).project params (overlay old.now.trees [])
+          (λ (p : ℤ × ℤ × PostingRow). is_between from through p.1) (λ p. between_holds from through p.1) all (overlay_is old.now.trees tree ∙ are) (subst (RiseFrom (pos 0)) are rise) rows it.0;
       unchanged = it.1;
     }
 
-pub postings_shown : (account : ℤ) (old new : State) (rows : List Row) → Shown select_postings (Int account ∷ []) old new rows → (l : LedgerRows) → HoldsRows old.now l
-    → ShowsInOrder posting_shown (filter (λ (p : ℤ × ℤ × PostingRow). int_eq p.1 account) l.postings) old new rows
-postings_shown account old new rows h l held =
+pub postings_shown : (from through : ℤ) (old new : State) (rows : List Row) → Shown select_postings (Int from ∷ Int through ∷ []) old new rows → (l : LedgerRows) → HoldsRows old.now l
+    → ShowsInOrder posting_shown (filter (λ (p : ℤ × ℤ × PostingRow). is_between from through p.1) l.postings) old new rows
+postings_shown from through old new rows h l held =
     let at = opened old.now l held in
-    postings_shown_in old.now.schema at.0.postings.table.tree _ (select_postings_is old.now.schema at.0.postings at.1.has_postings) account old new rows refl h l.postings at.2.postings at.2.postings_rise
+    postings_shown_in old.now.schema at.0.postings.table.tree _ (select_postings_is old.now.schema at.0.postings at.1.has_postings) from through old new rows refl h l.postings at.2.postings at.2.postings_rise
 
 -- ---- the accounts of all rows
 

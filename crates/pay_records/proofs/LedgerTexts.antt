@@ -2,7 +2,7 @@
 use Rattle.pay_records.specs.Tables.{ledger_schema, meta_tree, postings_tree, shares_tree, taps_tree, fixes_tree, taps_columns, fixes_columns}
 use Rattle.pay_records.specs.Places.{ledger_places, ledger_has, other_schema, other_places, other_has}
 use Rattle.pay_records.proofs.SelectTexts.{select_meta, select_all_taps, select_all_fixes, select_taps, select_fixes, select_postings, select_shares, IsQuery, meta_query, all_taps_query, all_fixes_query, taps_query, fixes_query, postings_query, shares_query}
-use Rattle.pay_records.proofs.Queries.{meta_names, taps_names, fixes_names, postings_names, select_meta_is, select_all_taps_is, select_all_fixes_is, select_taps_is, select_fixes_is, select_postings_is}
+use Rattle.pay_records.proofs.Queries.{meta_names, postings_names, select_meta_is, select_all_taps_is, select_all_fixes_is, select_taps_is, select_fixes_is, select_postings_is}
 use Rattle.pay_records.proofs.Joining.{shares_names, select_shares_is}
 
 pub ledger_meta : IsQuery ledger_schema select_meta (meta_query meta_tree) meta_names
@@ -14,10 +14,10 @@ ledger_all_taps = select_all_taps_is ledger_schema ledger_places.taps ledger_has
 pub ledger_all_fixes : IsQuery ledger_schema select_all_fixes (all_fixes_query fixes_tree) fixes_columns
 ledger_all_fixes = select_all_fixes_is ledger_schema ledger_places.fixes ledger_has.has_fixes
 
-pub ledger_taps : IsQuery ledger_schema select_taps (taps_query taps_tree) taps_names
+pub ledger_taps : IsQuery ledger_schema select_taps (taps_query taps_tree) taps_columns
 ledger_taps = select_taps_is ledger_schema ledger_places.taps ledger_has.has_taps
 
-pub ledger_fixes : IsQuery ledger_schema select_fixes (fixes_query fixes_tree) fixes_names
+pub ledger_fixes : IsQuery ledger_schema select_fixes (fixes_query fixes_tree) fixes_columns
 ledger_fixes = select_fixes_is ledger_schema ledger_places.fixes ledger_has.has_fixes
 
 pub ledger_postings : IsQuery ledger_schema select_postings (postings_query postings_tree) postings_names

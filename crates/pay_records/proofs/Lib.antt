@@ -21,6 +21,7 @@ mod Presences
 mod Missing
 mod Answered
 mod Says
+mod Alone
 mod Kinded
 mod Numbers
 mod Texts

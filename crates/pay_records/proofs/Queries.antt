@@ -17,8 +17,8 @@ use Rattle.sqlite_resolve.specs.Body.{tests}
 use Rattle.sqlite_resolve.specs.Order.{sorts}
 use Rattle.pay_records.specs.Tables.{meta, taps, taps_columns, fixes, fixes_columns, postings}
 use Rattle.pay_records.specs.Places.{Place, HasTable}
-use Rattle.pay_records.proofs.SelectTexts.{select_meta, select_posted_accounts, select_tapped_accounts, select_fixed_accounts, select_all_taps, select_all_fixes, select_taps, select_fixes, select_postings, IsQuery, is_given, by_rowid, meta_query, posted_accounts_query, accounts_query, all_taps_query, all_fixes_query, taps_query, fixes_query, postings_query}
-use Rattle.pay_records.proofs.Selecting.{bare, source, by_column, select_of, parsed_as, understood_is, classes_are, reads_one, rowid_sorts, column_sorts, given_tests, is_first_given}
+use Rattle.pay_records.proofs.SelectTexts.{select_meta, select_posted_accounts, select_tapped_accounts, select_fixed_accounts, select_all_taps, select_all_fixes, select_taps, select_fixes, select_postings, IsQuery, is_between_given as given_between, by_rowid, meta_query, posted_accounts_query, accounts_query, all_taps_query, all_fixes_query, taps_query, fixes_query, postings_query}
+use Rattle.pay_records.proofs.Selecting.{bare, source, by_column, select_of, parsed_as, understood_is, classes_are, reads_one, rowid_sorts, column_sorts, between_tests, is_between_given}
 
 pub is_query : (schema : Schema) (text : List ℕ) (s : Written) (names : List Name) (size : ℕ) (q : Query) (shown : List (List ℕ)) → first text ≡ Ok (parsed_as s names size)
     → read schema s ≡ Ok (Select (record { lets = []; body = q }) shown) → IsQuery schema text q shown
@@ -26,9 +26,9 @@ is_query schema text s names size q shown parsed reads =
     let it = understood_is schema text s names size (Select (record { lets = []; body = q }) shown) parsed reads in
     record { command = ap command_of it.0; plain = subst IsPlain (sym it.0) (refl, refl); unlisted = it.1 }
 
--- the parameter by its spelling
-abbrev parameter : List Name
-parameter = codes "?1" ∷ []
+-- the parameters by their spelling
+abbrev pub parameters : List Name
+parameters = codes "?1" ∷ codes "?2" ∷ []
 
 -- ---- the row of `meta`
 
@@ -93,18 +93,15 @@ module _ (schema : Schema) (place : Place) (has : HasTable schema place fixes) w
   pub select_all_fixes_is : IsQuery schema select_all_fixes (all_fixes_query place.table.tree) fixes_columns
   select_all_fixes_is = is_query schema select_all_fixes all_fixes_written [] 73 (all_fixes_query place.table.tree) fixes_columns all_fixes_parsed all_fixes_read
 
--- ---- of an account
+-- ---- of a stretch of accounts
 
-abbrev pub taps_names : List Name
-taps_names = codes "reader" ∷ codes "seq" ∷ codes "utc" ∷ codes "day" ∷ codes "second" ∷ codes "place" ∷ codes "kind" ∷ []
-
-abbrev of_account : Option Expr
-of_account = Some (is_first_given (codes "account"))
+abbrev between : Option Expr
+between = Some (is_between_given (codes "account"))
 
 abbrev taps_written : Written
-taps_written = select_of (map bare taps_names) (source (codes "taps") None ∷ []) of_account (by_column (codes "rowid") ∷ [])
+taps_written = select_of (map bare taps_columns) (source (codes "taps") None ∷ []) between (by_column (codes "rowid") ∷ [])
 
-taps_parsed : first select_taps ≡ Ok (parsed_as taps_written parameter 93)
+taps_parsed : first select_taps ≡ Ok (parsed_as taps_written parameters 121)
 unfolding first everything
 taps_parsed = refl
 
@@ -112,22 +109,19 @@ module _ (schema : Schema) (place : Place) (has : HasTable schema place taps) wh
   taps_accepted : accepts_program schema [] (taps_query place.table.tree) [] ≡ true
   taps_accepted = simp (classes_are schema place taps has)
 
-  taps_read : read schema taps_written ≡ Ok (Select (record { lets = []; body = taps_query place.table.tree }) taps_names)
+  taps_read : read schema taps_written ≡ Ok (Select (record { lets = []; body = taps_query place.table.tree }) taps_columns)
   unfolding ungrouped same_name is_rowid chosen alone first_found
-  taps_read = reads_one schema place taps has taps_names _ refl refl of_account (by_column (codes "rowid") ∷ []) (is_given 1 ∷ []) by_rowid 99990 99989 _ _
-      (given_tests schema place taps has _ false (codes "account") 0 _ refl refl refl refl refl 99993 _ refl refl refl)
-      (rowid_sorts schema place taps has _ false (codes "rowid") refl refl refl 99990 _ refl) taps_accepted
+  taps_read = reads_one schema place taps has taps_columns _ refl refl between (by_column (codes "rowid") ∷ []) (given_between 1) by_rowid 99985 99984 _ _
+      (between_tests schema place taps has _ false (codes "account") 0 _ refl refl refl refl refl 99992 _ refl)
+      (rowid_sorts schema place taps has _ false (codes "rowid") refl refl refl 99985 _ refl) taps_accepted
 
-  pub select_taps_is : IsQuery schema select_taps (taps_query place.table.tree) taps_names
-  select_taps_is = is_query schema select_taps taps_written parameter 93 (taps_query place.table.tree) taps_names taps_parsed taps_read
-
-abbrev pub fixes_names : List Name
-fixes_names = codes "staff" ∷ codes "seq" ∷ codes "what" ∷ codes "a" ∷ codes "b" ∷ codes "c" ∷ codes "d" ∷ codes "e" ∷ []
+  pub select_taps_is : IsQuery schema select_taps (taps_query place.table.tree) taps_columns
+  select_taps_is = is_query schema select_taps taps_written parameters 121 (taps_query place.table.tree) taps_columns taps_parsed taps_read
 
 abbrev fixes_written : Written
-fixes_written = select_of (map bare fixes_names) (source (codes "fixes") None ∷ []) of_account (by_column (codes "rowid") ∷ [])
+fixes_written = select_of (map bare fixes_columns) (source (codes "fixes") None ∷ []) between (by_column (codes "rowid") ∷ [])
 
-fixes_parsed : first select_fixes ≡ Ok (parsed_as fixes_written parameter 83)
+fixes_parsed : first select_fixes ≡ Ok (parsed_as fixes_written parameters 111)
 unfolding first everything
 fixes_parsed = refl
 
@@ -135,22 +129,22 @@ module _ (schema : Schema) (place : Place) (has : HasTable schema place fixes) w
   fixes_accepted : accepts_program schema [] (fixes_query place.table.tree) [] ≡ true
   fixes_accepted = simp (classes_are schema place fixes has)
 
-  fixes_read : read schema fixes_written ≡ Ok (Select (record { lets = []; body = fixes_query place.table.tree }) fixes_names)
+  fixes_read : read schema fixes_written ≡ Ok (Select (record { lets = []; body = fixes_query place.table.tree }) fixes_columns)
   unfolding ungrouped same_name is_rowid chosen alone first_found
-  fixes_read = reads_one schema place fixes has fixes_names _ refl refl of_account (by_column (codes "rowid") ∷ []) (is_given 1 ∷ []) by_rowid 99989 99988 _ _
-      (given_tests schema place fixes has _ false (codes "account") 0 _ refl refl refl refl refl 99992 _ refl refl refl)
-      (rowid_sorts schema place fixes has _ false (codes "rowid") refl refl refl 99989 _ refl) fixes_accepted
+  fixes_read = reads_one schema place fixes has fixes_columns _ refl refl between (by_column (codes "rowid") ∷ []) (given_between 1) by_rowid 99984 99983 _ _
+      (between_tests schema place fixes has _ false (codes "account") 0 _ refl refl refl refl refl 99991 _ refl)
+      (rowid_sorts schema place fixes has _ false (codes "rowid") refl refl refl 99984 _ refl) fixes_accepted
 
-  pub select_fixes_is : IsQuery schema select_fixes (fixes_query place.table.tree) fixes_names
-  select_fixes_is = is_query schema select_fixes fixes_written parameter 83 (fixes_query place.table.tree) fixes_names fixes_parsed fixes_read
+  pub select_fixes_is : IsQuery schema select_fixes (fixes_query place.table.tree) fixes_columns
+  select_fixes_is = is_query schema select_fixes fixes_written parameters 111 (fixes_query place.table.tree) fixes_columns fixes_parsed fixes_read
 
 abbrev pub postings_names : List Name
-postings_names = codes "id" ∷ codes "week" ∷ codes "through" ∷ codes "version" ∷ codes "due" ∷ codes "amount" ∷ codes "edition" ∷ []
+postings_names = codes "account" ∷ codes "id" ∷ codes "week" ∷ codes "through" ∷ codes "version" ∷ codes "due" ∷ codes "amount" ∷ codes "edition" ∷ []
 
 abbrev postings_written : Written
-postings_written = select_of (map bare postings_names) (source (codes "postings2") None ∷ []) of_account (by_column (codes "id") ∷ [])
+postings_written = select_of (map bare postings_names) (source (codes "postings2") None ∷ []) between (by_column (codes "id") ∷ [])
 
-postings_parsed : first select_postings ≡ Ok (parsed_as postings_written parameter 101)
+postings_parsed : first select_postings ≡ Ok (parsed_as postings_written parameters 129)
 unfolding first everything
 postings_parsed = refl
 
@@ -160,12 +154,12 @@ module _ (schema : Schema) (place : Place) (has : HasTable schema place postings
 
   postings_read : read schema postings_written ≡ Ok (Select (record { lets = []; body = postings_query place.table.tree }) postings_names)
   unfolding ungrouped same_name chosen alone first_found
-  postings_read = reads_one schema place postings has postings_names _ refl refl of_account (by_column (codes "id") ∷ []) (is_given 2 ∷ []) by_rowid 99990 99989 _ _
-      (given_tests schema place postings has _ false (codes "account") 1 _ refl refl refl refl refl 99993 _ refl refl refl)
-      (column_sorts schema place postings has _ false (codes "id") 0 _ refl refl refl 99990 _ refl) postings_accepted
+  postings_read = reads_one schema place postings has postings_names _ refl refl between (by_column (codes "id") ∷ []) (given_between 2) by_rowid 99985 99984 _ _
+      (between_tests schema place postings has _ false (codes "account") 1 _ refl refl refl refl refl 99992 _ refl)
+      (column_sorts schema place postings has _ false (codes "id") 0 _ refl refl refl 99985 _ refl) postings_accepted
 
   pub select_postings_is : IsQuery schema select_postings (postings_query place.table.tree) postings_names
-  select_postings_is = is_query schema select_postings postings_written parameter 101 (postings_query place.table.tree) postings_names postings_parsed postings_read
+  select_postings_is = is_query schema select_postings postings_written parameters 129 (postings_query place.table.tree) postings_names postings_parsed postings_read
 
 -- ---- the accounts of all rows
 

@@ -1,15 +1,12 @@
 -- What the names of a SELECT stand for, whatever else the schema has: a column is found by its table alone.
 use Rattle.std.proofs.Common.{◌≡◌, ℕ, ◌-◌, ◌^◌, nat_lt, Bool, true, false, ◌&&◌, List, [], ◌∷◌, ◌++◌, slice_get, Option, Some, None, Ok, refl, sym, ap}
 use Rattle.std.proofs.lemmas.Bool.{and_parts}
-use Rattle.sqlite_value.specs.declared.keys.Collation.TheVariants.{Binary as ByBytes}
-use Rattle.sqlite_ast.specs.declared.Binary.TheVariants as binary
+use Rattle.sqlite_ast.specs.declared.Binary.{Binary}
 use Rattle.sqlite_ast.specs.declared.Expr.{Expr, out-Expr}
 use Rattle.sqlite_ast.specs.declared.Expr.TheOpen.{Expr-F, Shown-F}
 use Rattle.sqlite_ast.specs.declared.Shown.{Shown, out-Shown}
 use Rattle.sqlite_ast.specs.declared.Sort.{roll-Sort}
-use Rattle.sqlite_sql.specs.Term.{Term, col, op2, reads_below}
-use Rattle.sqlite_sql.specs.declared.ops.BinaryOp.TheVariants as by
-use Rattle.sqlite_sql.specs.declared.ops.CompareOp.TheVariants as compare
+use Rattle.sqlite_sql.specs.Term.{Term, col, reads_below}
 use Rattle.sqlite_schema.specs.declared.schema.Schema.{Schema}
 use Rattle.sqlite_schema.specs.declared.schema.Table.{Table}
 use Rattle.sqlite_schema.specs.declared.schema.Column.{Column as Column'}
@@ -21,13 +18,12 @@ use Rattle.sqlite_resolve.specs.declared.scope.Found.{Found}
 use Rattle.sqlite_resolve.specs.declared.scope.Found.TheVariants.{Column, Rowid}
 use Rattle.sqlite_resolve.specs.declared.state.State.{State}
 use Rattle.sqlite_resolve.specs.declared.state.Carried.{Carried}
-use Rattle.sqlite_resolve.specs.Lowering.{Lowering, begin, finish, spend, nothing, chosen, alone}
+use Rattle.sqlite_resolve.specs.Lowering.{Lowering, and_then, written_or, pure, begin, finish, spend, nothing, chosen, alone}
 use Rattle.sqlite_resolve.specs.Scope.{Name, Context, column_in, column_at, rowid_in, hit, only, in_level, find, term_of, column, is_rowid, declared, is_meant, is_hidden, alias_of}
-use Rattle.sqlite_resolve.specs.Compare.{compared}
 use Rattle.sqlite_resolve.specs.Body.{found_name, heading, is_column, shown, outputs_from, declared as declared_name}
 use Rattle.sqlite_resolve.specs.Order.{sorts, sort, alias_in, peeled, key, is_numeral, collation_of, written_on, placed}
 use Rattle.sqlite_resolve.specs.Select.{inside}
-use Rattle.sqlite_resolve.specs.Expr.{node, lower_to, lower, opened, passes, operation, both, combine, wanted_truth, tests_truth, tests_alias}
+use Rattle.sqlite_resolve.specs.Expr.{node, lower_to, lower, opened, passes, is_identity, operation, both, combine, wanted_truth, tests_truth, tests_alias}
 
 module _ (schema : Schema) (at : ℕ) (table : Table) (placed : slice_get schema.tables at ≡ Some table) where
   pub column_in_is : (b : Bound) (name : Name) (k : ℕ) → b.table ≡ at → column_named table name ≡ Some k → column_in schema name b ≡ Some (Column b.slot at k)
@@ -101,13 +97,14 @@ module _ (inner : Context → Expr → Lowering Term) (cx : Context) where
   unfolding node spend begin opened finish passes
   parameter_lowers e n is next budget last enough = simp (node, spend, enough, begin, opened, is, finish, passes)
 
-  pub equal_lowers : (e a b : Expr) → out-Expr e ≡ Expr-F.Binary binary.Eq a b → (x y : Term) (p q : Carried) (next budget : ℕ) (last : Carried) → nat_lt 1 budget ≡ true
-      → inner cx a (state next (budget - 1) nothing) ≡ Ok (x, state next (budget - 1 - 1) p) → inner cx b (state next (budget - 1 - 1) p) ≡ Ok (y, state next (budget - 1 - 1 - 1) q)
-      → chosen p q ≡ ByBytes → compared cx (by.Compare compare.Eq ByBytes) x y ≡ op2 (by.Compare compare.Eq ByBytes) x y
-      → node inner cx e (state next budget last) ≡ Ok (op2 (by.Compare compare.Eq ByBytes) x y, state next (budget - 1 - 1 - 1) nothing)
-  unfolding node spend begin opened operation both combine wanted_truth tests_truth tests_alias finish passes
-  equal_lowers e a b is x y p q next budget last enough first second how same =
-      simp (node, spend, enough, begin, opened, is, operation, wanted_truth, both, tests_truth, tests_alias, first, second, combine, how, same, finish, passes)
+  -- an operator whose operands are read as they are, and what is made of them
+  pub binary_lowers : (op : Binary) → is_identity op ≡ false → (e a b : Expr) → out-Expr e ≡ Expr-F.Binary op a b → (x y made : Term) (p q : Carried) (next budget two three : ℕ) (last : Carried) → nat_lt 1 budget ≡ true
+      → inner cx a (state next (budget - 1) nothing) ≡ Ok (x, state next two p) → inner cx b (state next two p) ≡ Ok (y, state next three q) → combine cx op (chosen p q) x y ≡ pure made
+      → node inner cx e (state next budget last) ≡ Ok (made, state next three nothing)
+  unfolding node spend begin opened operation both wanted_truth tests_truth tests_alias finish passes
+  binary_lowers op plain e a b is x y made p q next budget two three last enough first second combined =
+      simp (node, spend, enough, begin, opened, is, operation, wanted_truth, plain, both, tests_truth, tests_alias, first, second, finish, passes)
+      (ap (λ (f : Lowering Term). and_then (f (state next three q)) (λ (r : Term × State). Ok (r.0, record r.1 { last = written_or r.1.written nothing }))) combined)
 
 -- ---- the columns that it shows
 

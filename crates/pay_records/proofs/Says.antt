@@ -8,13 +8,13 @@ use Rattle.pay_rows.specs.declared.row.PostingRow.{PostingRow}
 use Rattle.pay_rows.specs.declared.row.ShareRow.{ShareRow}
 use Rattle.pay_rows.specs.declared.row.TapRow.{TapRow}
 use Rattle.pay_rows.specs.declared.row.FixRow.{FixRow}
-use Rattle.pay_records.specs.Rows.{LedgerRows, HoldsRows, share_numbers, tap_numbers, fix_numbers}
+use Rattle.pay_records.specs.Rows.{LedgerRows, HoldsRows, tap_numbers, fix_numbers}
 use Rattle.pay_records.specs.declared.fault.ReadFault.{ReadFault}
 use Rattle.pay_records.specs.declared.fault.ReadFault.TheVariants.{BadArchive, Memory}
 use Rattle.pay_records.specs.Told.{IsWhole, AreWhole, whole_in, IsBadUnless, number_at, posting_at, share_at, tap_at, fix_at}
-use Rattle.pay_records.specs.Found.{Finds, postings_of, shares_of, taps_of, fixes_of, posted_accounts, tapped_accounts, fixed_accounts}
+use Rattle.pay_records.specs.Found.{Finds, postings_between, shares_between, taps_between, fixes_between, posted_accounts, tapped_accounts, fixed_accounts}
 use Rattle.pay_records.proofs.SelectTexts.{select_postings, select_shares, select_taps, select_fixes, select_all_taps, select_all_fixes, select_posted_accounts, select_tapped_accounts, select_fixed_accounts}
-use Rattle.pay_records.proofs.Answered.{told_in_some_order, told_in_order, each_shown, each_in_order, tap_shown, fix_shown, posting_shown, taps_shown, fixes_shown, all_taps_shown, all_fixes_shown, shares_shown, postings_shown, one_number, posted_accounts_shown, tapped_accounts_shown, fixed_accounts_shown}
+use Rattle.pay_records.proofs.Answered.{told_in_some_order, told_in_order, each_shown, each_in_order, beside_share, posting_shown, taps_shown, fixes_shown, all_taps_shown, all_fixes_shown, shares_shown, postings_shown, one_number, posted_accounts_shown, tapped_accounts_shown, fixed_accounts_shown}
 
 -- columns that are whole numbers are not told to be bad
 pub never_told_bad : {A : Type 0} (r : Result A ReadFault) (Whole : Type 0) → IfErr r (λ fault. fault ≢ Memory → IsBadUnless Whole fault) → r ≡ Err BadArchive → Whole → ⊥
@@ -34,46 +34,48 @@ module _ (old new : State) (given : Row) (rows held : List Row) where
   shown_rows : (text : List ℕ) (params : Row) → IsShown text params → Shown text params old new held
   shown_rows text params h = subst (λ r. Shown text params old new r) (sym h.rows_are) (subst (λ p. Shown text p old new rows) h.params_are h.shown)
 
-  pub taps_told : (account : ℤ) (list : List TapRow) → IsShown select_taps (Int account ∷ []) → list ≡ map (tap_at 0) held → Finds old new (λ l. list ≡ taps_of account l)
-  taps_told account list is told l holds =
-      let h = taps_shown account old new held (shown_rows select_taps (Int account ∷ []) is) l holds in
-      (told ∙ told_in_order tap_shown (tap_at 0) (λ (t : ℤ × TapRow). t.1) (λ x. refl) _ old new held h, h.unchanged)
+  pub taps_told : (from through : ℤ) (list : List (ℤ × TapRow)) → IsShown select_taps (Int from ∷ Int through ∷ []) → list ≡ map (λ r. (whole_in (column r 0), tap_at 1 r)) held → Finds old new (λ l. list ≡ taps_between from through l)
+  taps_told from through list is told l holds =
+      let h = taps_shown from through old new held (shown_rows select_taps (Int from ∷ Int through ∷ []) is) l holds in
+      (told ∙ told_in_order tap_numbers (λ r. (whole_in (column r 0), tap_at 1 r)) (λ (t : ℤ × TapRow). t) (λ x. refl) _ old new held h ∙ itself (taps_between from through l), h.unchanged)
 
-  pub taps_whole : (account : ℤ) → IsShown select_taps (Int account ∷ []) → (l : LedgerRows) → HoldsRows old.now l → AllByRecursion (AreWhole 0 7) held
-  taps_whole account is l holds =
-      let h = taps_shown account old new held (shown_rows select_taps (Int account ∷ []) is) l holds in
-      each_in_order tap_shown (AreWhole 0 7) (λ x. ((_, refl), ((_, refl), ((_, refl), ((_, refl), ((_, refl), ((_, refl), ((_, refl), tt)))))))) _ old new held h
+  pub taps_whole : (from through : ℤ) → IsShown select_taps (Int from ∷ Int through ∷ []) → (l : LedgerRows) → HoldsRows old.now l → AllByRecursion (λ r. IsWhole (column r 0) × AreWhole 1 7 r) held
+  taps_whole from through is l holds =
+      let h = taps_shown from through old new held (shown_rows select_taps (Int from ∷ Int through ∷ []) is) l holds in
+      each_in_order tap_numbers (λ r. IsWhole (column r 0) × AreWhole 1 7 r) (λ x. ((_, refl), ((_, refl), ((_, refl), ((_, refl), ((_, refl), ((_, refl), ((_, refl), ((_, refl), tt))))))))) _ old new held h
 
-  pub fixes_told : (account : ℤ) (list : List FixRow) → IsShown select_fixes (Int account ∷ []) → list ≡ map (fix_at 0) held → Finds old new (λ l. list ≡ fixes_of account l)
-  fixes_told account list is told l holds =
-      let h = fixes_shown account old new held (shown_rows select_fixes (Int account ∷ []) is) l holds in
-      (told ∙ told_in_order fix_shown (fix_at 0) (λ (f : ℤ × FixRow). f.1) (λ x. refl) _ old new held h, h.unchanged)
+  pub fixes_told : (from through : ℤ) (list : List (ℤ × FixRow)) → IsShown select_fixes (Int from ∷ Int through ∷ []) → list ≡ map (λ r. (whole_in (column r 0), fix_at 1 r)) held → Finds old new (λ l. list ≡ fixes_between from through l)
+  fixes_told from through list is told l holds =
+      let h = fixes_shown from through old new held (shown_rows select_fixes (Int from ∷ Int through ∷ []) is) l holds in
+      (told ∙ told_in_order fix_numbers (λ r. (whole_in (column r 0), fix_at 1 r)) (λ (f : ℤ × FixRow). f) (λ x. refl) _ old new held h ∙ itself (fixes_between from through l), h.unchanged)
 
-  pub fixes_whole : (account : ℤ) → IsShown select_fixes (Int account ∷ []) → (l : LedgerRows) → HoldsRows old.now l → AllByRecursion (AreWhole 0 8) held
-  fixes_whole account is l holds =
-      let h = fixes_shown account old new held (shown_rows select_fixes (Int account ∷ []) is) l holds in
-      each_in_order fix_shown (AreWhole 0 8) (λ x. ((_, refl), ((_, refl), ((_, refl), ((_, refl), ((_, refl), ((_, refl), ((_, refl), ((_, refl), tt))))))))) _ old new held h
+  pub fixes_whole : (from through : ℤ) → IsShown select_fixes (Int from ∷ Int through ∷ []) → (l : LedgerRows) → HoldsRows old.now l → AllByRecursion (λ r. IsWhole (column r 0) × AreWhole 1 8 r) held
+  fixes_whole from through is l holds =
+      let h = fixes_shown from through old new held (shown_rows select_fixes (Int from ∷ Int through ∷ []) is) l holds in
+      each_in_order fix_numbers (λ r. IsWhole (column r 0) × AreWhole 1 8 r) (λ x. ((_, refl), ((_, refl), ((_, refl), ((_, refl), ((_, refl), ((_, refl), ((_, refl), ((_, refl), ((_, refl), tt)))))))))) _ old new held h
 
-  pub postings_told : (account : ℤ) (list : List (ℤ × PostingRow)) → IsShown select_postings (Int account ∷ []) → list ≡ map (λ r. (whole_in (column r 0), posting_at 1 r)) held → Finds old new (λ l. list ≡ postings_of account l)
-  postings_told account list is told l holds =
-      let h = postings_shown account old new held (shown_rows select_postings (Int account ∷ []) is) l holds in
-      (told ∙ told_in_order posting_shown (λ r. (whole_in (column r 0), posting_at 1 r)) (λ (p : ℤ × ℤ × PostingRow). (p.0, p.2)) (λ x. refl) _ old new held h, h.unchanged)
+  pub postings_told : (from through : ℤ) (list : List (ℤ × (ℤ × PostingRow))) → IsShown select_postings (Int from ∷ Int through ∷ []) → list ≡ map (λ r. (whole_in (column r 0), posting_at 1 r)) held
+      → Finds old new (λ l. list ≡ postings_between from through l)
+  postings_told from through list is told l holds =
+      let h = postings_shown from through old new held (shown_rows select_postings (Int from ∷ Int through ∷ []) is) l holds in
+      (told ∙ told_in_order posting_shown (λ r. (whole_in (column r 0), posting_at 1 r)) (λ (p : ℤ × ℤ × PostingRow). (p.1, (p.0, p.2))) (λ x. refl) _ old new held h, h.unchanged)
 
-  pub postings_whole : (account : ℤ) → IsShown select_postings (Int account ∷ []) → (l : LedgerRows) → HoldsRows old.now l → AllByRecursion (λ r. IsWhole (column r 0) × AreWhole 1 6 r) held
-  postings_whole account is l holds =
-      let h = postings_shown account old new held (shown_rows select_postings (Int account ∷ []) is) l holds in
-      each_in_order posting_shown (λ r. IsWhole (column r 0) × AreWhole 1 6 r) (λ x. ((_, refl), ((_, refl), ((_, refl), ((_, refl), ((_, refl), ((_, refl), ((_, refl), tt)))))))) _ old new held h
+  pub postings_whole : (from through : ℤ) → IsShown select_postings (Int from ∷ Int through ∷ []) → (l : LedgerRows) → HoldsRows old.now l → AllByRecursion (λ r. IsWhole (column r 0) × AreWhole 1 7 r) held
+  postings_whole from through is l holds =
+      let h = postings_shown from through old new held (shown_rows select_postings (Int from ∷ Int through ∷ []) is) l holds in
+      each_in_order posting_shown (λ r. IsWhole (column r 0) × AreWhole 1 7 r) (λ x. ((_, refl), ((_, refl), ((_, refl), ((_, refl), ((_, refl), ((_, refl), ((_, refl), ((_, refl), tt))))))))) _ old new held h
 
-  pub shares_told : (account : ℤ) (list : List ShareRow) → IsShown select_shares (Int account ∷ []) → list ≡ map (share_at 0) held → Finds old new (λ l. IsPermutation (shares_of account l) list)
-  shares_told account list is told l holds =
-      let h = shares_shown account old new held (shown_rows select_shares (Int account ∷ []) is) l holds in
-      let same = told_in_some_order share_numbers (share_at 0) (λ (s : ShareRow). s) (λ x. refl) _ old new held h in
-      (subst (IsPermutation (shares_of account l)) (sym told) (subst (λ f. IsPermutation f (map (share_at 0) held)) (itself (shares_of account l)) same), h.unchanged)
+  pub shares_told : (from through : ℤ) (list : List (ℤ × ShareRow)) → IsShown select_shares (Int from ∷ Int through ∷ []) → list ≡ map (λ r. (whole_in (column r 0), share_at 1 r)) held
+      → Finds old new (λ l. IsPermutation (shares_between from through l) list)
+  shares_told from through list is told l holds =
+      let h = shares_shown from through old new held (shown_rows select_shares (Int from ∷ Int through ∷ []) is) l holds in
+      let same = told_in_some_order beside_share (λ r. (whole_in (column r 0), share_at 1 r)) (λ (s : ℤ × ShareRow). s) (λ x. refl) _ old new held h in
+      (subst (IsPermutation (shares_between from through l)) (sym told) (subst (λ f. IsPermutation f (map (λ r. (whole_in (column r 0), share_at 1 r)) held)) (itself (shares_between from through l)) same), h.unchanged)
 
-  pub shares_whole : (account : ℤ) → IsShown select_shares (Int account ∷ []) → (l : LedgerRows) → HoldsRows old.now l → AllByRecursion (AreWhole 0 3) held
-  shares_whole account is l holds =
-      let h = shares_shown account old new held (shown_rows select_shares (Int account ∷ []) is) l holds in
-      each_shown share_numbers (AreWhole 0 3) (λ x. ((_, refl), ((_, refl), ((_, refl), tt)))) _ old new held h
+  pub shares_whole : (from through : ℤ) → IsShown select_shares (Int from ∷ Int through ∷ []) → (l : LedgerRows) → HoldsRows old.now l → AllByRecursion (λ r. IsWhole (column r 0) × AreWhole 1 3 r) held
+  shares_whole from through is l holds =
+      let h = shares_shown from through old new held (shown_rows select_shares (Int from ∷ Int through ∷ []) is) l holds in
+      each_shown beside_share (λ r. IsWhole (column r 0) × AreWhole 1 3 r) (λ x. ((_, refl), ((_, refl), ((_, refl), ((_, refl), tt))))) _ old new held h
 
   pub all_taps_told : (list : List (ℤ × TapRow)) → IsShown select_all_taps [] → list ≡ map (λ r. (whole_in (column r 0), tap_at 1 r)) held → Finds old new (λ l. list ≡ l.taps)
   all_taps_told list is told l holds =

@@ -1,6 +1,6 @@
 -- What a SELECT of bare columns stands for under any schema that has its tables.
-use Rattle.std.proofs.Common.{◌≡◌, ℕ, ◌-◌, ◌^◌, slice_get, option_map, option_and_then, subst, negsuc, Bool, true, false, List, [], ◌∷◌, ◌++◌, map, Option, Some, None, Ok, refl, nat_lt, suc}
-use Rattle.std.proofs.lemmas.Bool.{lt-leb, ltb-true}
+use Rattle.std.proofs.Common.{◌≡◌, ℕ, zero, suc, ◌-◌, ◌^◌, slice_get, option_map, option_and_then, subst, negsuc, Bool, true, false, ◌&&◌, List, [], ◌∷◌, ◌++◌, map, Option, Some, None, Ok, refl, ap, ◌∙◌, nat_lt}
+use Rattle.std.proofs.lemmas.Bool.{lt-leb, ltb-true, and_parts}
 use Rattle.sqlite_value.specs.declared.keys.Key.{Key}
 use Rattle.sqlite_value.specs.declared.value.Value.TheVariants.{Int}
 use Rattle.sqlite_value.specs.declared.keys.Collation.TheVariants.{Binary as ByBytes}
@@ -14,10 +14,12 @@ use Rattle.sqlite_ast.specs.declared.Statement.TheVariants as statement
 use Rattle.sqlite_ast.specs.declared.Expr.TheViews.{out-roll-Expr, out-roll-Shown, out-roll-Source, out-roll-Core, out-roll-Select}
 use Rattle.sqlite_ast.specs.declared.Expr.TheOpen.{Expr-F, Shown-F}
 use Rattle.sqlite_ast.specs.declared.Origin.TheVariants as origin
+use Rattle.sqlite_ast.specs.declared.Binary.{Binary}
 use Rattle.sqlite_ast.specs.declared.Binary.TheVariants as binary
 use Rattle.sqlite_syntax.specs.declared.statement.Parsed.{Parsed}
 use Rattle.sqlite_sql.specs.Term.{Term, lit, col, op2}
 use Rattle.sqlite_sql.specs.declared.ops.BinaryOp.TheVariants as by
+use Rattle.sqlite_sql.specs.declared.ops.CompareOp.{CompareOp}
 use Rattle.sqlite_sql.specs.declared.ops.CompareOp.TheVariants as compare
 use Rattle.sqlite.specs.Command.TheVariants.{Select as Select'}
 use Rattle.sqlite.specs.Listing.{understood, reads_listing}
@@ -34,12 +36,12 @@ use Rattle.sqlite_resolve.specs.declared.scope.Bound.{Bound}
 use Rattle.sqlite_resolve.specs.declared.scope.Output.{Output}
 use Rattle.sqlite_resolve.specs.declared.body.Joined.{Joined}
 use Rattle.sqlite_resolve.specs.declared.state.Carried.{Carried}
-use Rattle.sqlite_resolve.specs.Lowering.{fresh, max_budget, nothing, take_slot, alone as alone_in, chosen}
+use Rattle.sqlite_resolve.specs.Lowering.{Lowering, pure, fresh, max_budget, nothing, take_slot, alone as alone_in, chosen}
 use Rattle.sqlite_resolve.specs.Scope.{Name, Context, only, hit, is_among, declared, alias_of, is_rowid, column_in}
 use Rattle.sqlite_resolve.specs.Terms.{number}
 use Rattle.sqlite_resolve.specs.Body.{body, bounds, result, outputs, outputs_from, shown as shown_one, matching, joins, tests, bound, table_in, join, shared, inner_join}
 use Rattle.sqlite_resolve.specs.Order.{keys, sorts}
-use Rattle.sqlite_resolve.specs.Expr.{lower, lower_to}
+use Rattle.sqlite_resolve.specs.Expr.{lower, lower_to, node, combine, is_identity}
 use Rattle.sqlite_resolve.specs.Select.{inside, parts, having, assembled, ungrouped, named, paging, constant_or}
 use Rattle.sqlite_resolve.specs.Program.{query, query_to, level, with, whole, alone, program, are_named, Building, Shown as Shown'}
 use Rattle.sqlite_resolve.specs.Compile.{compiled, first, planned, timed, meaning, returning, command, read, with_command}
@@ -48,7 +50,7 @@ use Rattle.sqlite_resolve.specs.declared.scope.Found.TheVariants.{Column, Rowid}
 use Rattle.sqlite_resolve.specs.declared.compare.Affinity.TheVariants as affinity
 use Rattle.sqlite_resolve.specs.Compare.{compared, affinity_of, of_column, of_declared, converted, may_be_text}
 use Rattle.pay_records.specs.Places.{Place, HasTable, alike}
-use Rattle.pay_records.proofs.Resolving.{rowid_in_is, rowid_resolves, sorts_are, column_lowers, parameter_lowers, equal_lowers, state, Resolves, IsShown, AreShown, bare_output, column_in_is, column_resolves, outputs_are, one_by_one, left_after, last_of, is_enough}
+use Rattle.pay_records.proofs.Resolving.{rowid_in_is, rowid_resolves, sorts_are, column_lowers, parameter_lowers, binary_lowers, state, Resolves, IsShown, AreShown, bare_output, column_in_is, column_resolves, outputs_are, one_by_one, left_after, last_of, is_enough}
 
 same_some : {A : Type 0} {a b : A} → Some a ≡ Some b → a ≡ b
 same_some h = cc
@@ -125,12 +127,16 @@ source name on = roll-Source (record { is_left = false; origin = origin.Table na
 abbrev pub by_column : Name → Sort
 by_column name = roll-Sort (record { key = bare_column name; descending = false; nulls_first = None })
 
-abbrev first_parameter : Expr
-first_parameter = roll-Expr (Expr-F.Parameter 1)
+abbrev parameter : ℕ → Expr
+parameter n = roll-Expr (Expr-F.Parameter n)
 
--- a column is the first parameter
-abbrev pub is_first_given : Name → Expr
-is_first_given name = roll-Expr (Expr-F.Binary binary.Eq (bare_column name) first_parameter)
+-- a column beside a parameter
+abbrev against : Binary → Name → ℕ → Expr
+against op name n = roll-Expr (Expr-F.Binary op (bare_column name) (parameter n))
+
+-- it is no less than the first one, and no more than the second
+abbrev pub is_between_given : Name → Expr
+is_between_given name = roll-Expr (Expr-F.Binary binary.And (against binary.Ge name 1) (against binary.Le name 2))
 
 abbrev pub core_of : List Shown → List Source → Option Expr → Core
 core_of shown from filter = roll-Core (record { distinct = false; shown = shown; from = from; filter = filter; group = []; having = None })
@@ -154,17 +160,44 @@ pub select_is : (shown : List Shown) (from : List Source) (filter : Option Expr)
     → out-Select (select_of shown from filter order) ≡ record { with = []; first = core_of shown from filter; others = []; order = order; limit = None; offset = None }
 select_is shown from filter order = out-roll-Select _
 
--- A column is the first parameter, where the column needs no conversion.
-pub first_given : (cx : Context) (name heading : Name) (x : Term) (p : Carried) → Resolves cx None name heading x p → chosen p nothing ≡ ByBytes
-    → compared cx (by.Compare compare.Eq ByBytes) x (col 0 0) ≡ op2 (by.Compare compare.Eq ByBytes) x (col 0 0) → (done : List Term) (next budget : ℕ) (last : Carried)
-    → nat_lt 1 budget ≡ true → nat_lt 1 (budget - 1) ≡ true → nat_lt 1 (budget - 1 - 1) ≡ true
-    → tests lower cx done (Some (is_first_given name)) (state next budget last) ≡ Ok (done ++ op2 (by.Compare compare.Eq ByBytes) x (col 0 0) ∷ [], state next (budget - 1 - 1 - 1) nothing)
-unfolding tests lower_to
-first_given cx name heading x p it how same done next budget last one two three =
-    let left = column_lowers (lower_to 698) cx (bare_column name) None name it.found x p (column_is None name) it.finds it.means next (budget - 1) nothing two in
-    let right = parameter_lowers (lower_to 698) cx first_parameter 1 (out-roll-Expr _) next (budget - 1 - 1) p three in
-    let all = equal_lowers (lower_to 699) cx (is_first_given name) (bare_column name) first_parameter (out-roll-Expr _) x (col 0 0) p nothing next budget last one left right how same in
-    simp (tests, lower_to, all)
+-- what a comparison stands for
+abbrev by_bytes : CompareOp → Term → Term → Term
+by_bytes op x y = op2 (by.Compare op ByBytes) x y
+
+-- there is enough to spend so often
+abbrev pub lasts : ℕ → ℕ → Bool
+lasts zero budget = true
+lasts (suc n) budget = nat_lt 1 budget && lasts n (budget - 1)
+
+-- A column beside parameters, where it needs no conversion.
+module _ (cx : Context) (name heading : Name) (x : Term) (p : Carried) (it : Resolves cx None name heading x p) (how : chosen p nothing ≡ ByBytes) where
+  against_lowers : (inner : Context → Expr → Lowering Term) (op : Binary) (test : CompareOp) → is_identity op ≡ false → (n : ℕ) → combine cx op ByBytes x (col 0 (n - 1)) ≡ pure (by_bytes test x (col 0 (n - 1)))
+      → (next budget : ℕ) (last : Carried) → nat_lt 1 budget ≡ true → nat_lt 1 (budget - 1) ≡ true → nat_lt 1 (budget - 1 - 1) ≡ true
+      → node (node inner) cx (against op name n) (state next budget last) ≡ Ok (by_bytes test x (col 0 (n - 1)), state next (budget - 1 - 1 - 1) nothing)
+  against_lowers inner op test plain n made next budget last one two three =
+      let left = column_lowers inner cx (bare_column name) None name it.found x p (column_is None name) it.finds it.means next (budget - 1) nothing two in
+      let right = parameter_lowers inner cx (parameter n) n (out-roll-Expr _) next (budget - 1 - 1) p three in
+      binary_lowers (node inner) cx op plain (against op name n) (bare_column name) (parameter n) (out-roll-Expr _) x (col 0 (n - 1)) (by_bytes test x (col 0 (n - 1))) p nothing next budget (budget - 1 - 1) (budget - 1 - 1 - 1) last one left right
+      (ap (λ c. combine cx op c x (col 0 (n - 1))) how ∙ made)
+
+  -- it is between two of them
+  pub between_given : compared cx (by.Compare compare.Ge ByBytes) x (col 0 0) ≡ by_bytes compare.Ge x (col 0 0) → compared cx (by.Compare compare.Le ByBytes) x (col 0 1) ≡ by_bytes compare.Le x (col 0 1)
+      → (done : List Term) (next budget : ℕ) (last : Carried) → lasts 7 budget ≡ true
+      → tests lower cx done (Some (is_between_given name)) (state next budget last) ≡ Ok (done ++ by_bytes compare.Ge x (col 0 0) ∷ by_bytes compare.Le x (col 0 1) ∷ [], state next (budget - 1 - 1 - 1 - 1 - 1 - 1 - 1) nothing)
+  unfolding tests lower_to combine
+  between_given least most done next budget last enough =
+      let one = and_parts _ _ enough in
+      let two = and_parts _ _ one.1 in
+      let three = and_parts _ _ two.1 in
+      let four = and_parts _ _ three.1 in
+      let five = and_parts _ _ four.1 in
+      let six = and_parts _ _ five.1 in
+      let seven = and_parts _ _ six.1 in
+      let low = against_lowers (lower_to 697) binary.Ge compare.Ge refl 1 (ap pure least) next (budget - 1) nothing two.0 three.0 four.0 in
+      let high = against_lowers (lower_to 697) binary.Le compare.Le refl 2 (ap pure most) next (budget - 1 - 1 - 1 - 1) nothing five.0 six.0 seven.0 in
+      let all = binary_lowers (lower_to 699) cx binary.And refl (is_between_given name) (against binary.Ge name 1) (against binary.Le name 2) (out-roll-Expr _) (by_bytes compare.Ge x (col 0 0)) (by_bytes compare.Le x (col 0 1))
+      (op2 by.And (by_bytes compare.Ge x (col 0 0)) (by_bytes compare.Le x (col 0 1))) nothing nothing next budget (budget - 1 - 1 - 1 - 1) (budget - 1 - 1 - 1 - 1 - 1 - 1 - 1) last one.0 low high refl in
+      simp (tests, lower_to, all)
 
 -- ---- one table
 
@@ -259,14 +292,16 @@ module _ (schema : Schema) (place : Place) (wanted : Table) (has : HasTable sche
         let it = resolves_here name k c named has_column in
         sorts_are scope shown (bare_column name) name it.found (col 1 (place_of here k)) (declared here k c) (column_is None name) no_alias it.finds it.means refl 2 budget last enough
 
-    -- a column of whole numbers is the first parameter
-    pub given_tests : (name : Name) (k : ℕ) (c : Column') → column_named here name ≡ Some k → slice_get here.columns k ≡ Some c → place_of here k ≡ suc k → of_declared c ≡ affinity.Numeric
-        → chosen (declared here k c) nothing ≡ ByBytes → (budget : ℕ) (last : Carried) → nat_lt 1 budget ≡ true → nat_lt 1 (budget - 1) ≡ true → nat_lt 1 (budget - 1 - 1) ≡ true
-        → tests lower scope [] (Some (is_first_given name)) (state 2 budget last) ≡ Ok (op2 (by.Compare compare.Eq ByBytes) (col 1 (suc k)) (col 0 0) ∷ [], state 2 (budget - 1 - 1 - 1) nothing)
+    -- a column of whole numbers is between the parameters
+    pub between_tests : (name : Name) (k : ℕ) (c : Column') → column_named here name ≡ Some k → slice_get here.columns k ≡ Some c → place_of here k ≡ suc k → of_declared c ≡ affinity.Numeric
+        → chosen (declared here k c) nothing ≡ ByBytes → (budget : ℕ) (last : Carried) → lasts 7 budget ≡ true
+        → tests lower scope [] (Some (is_between_given name)) (state 2 budget last)
+        ≡ Ok (by_bytes compare.Ge (col 1 (suc k)) (col 0 0) ∷ by_bytes compare.Le (col 1 (suc k)) (col 0 1) ∷ [], state 2 (budget - 1 - 1 - 1 - 1 - 1 - 1 - 1) nothing)
     unfolding compared affinity_of of_column converted may_be_text
-    given_tests name k c named has_column at_one numeric how budget last one two three =
-        let same : compared scope (by.Compare compare.Eq ByBytes) (col 1 (suc k)) (col 0 0) ≡ op2 (by.Compare compare.Eq ByBytes) (col 1 (suc k)) (col 0 0) = simp (compared, affinity_of, of_column, has.placed, has_column, numeric, converted, may_be_text) in
-        first_given scope name c.name (col 1 (suc k)) (declared here k c) (subst (λ p. Resolves scope None name c.name (col 1 p) (declared here k c)) at_one (resolves_here name k c named has_column)) how same [] 2 budget last one two three
+    between_tests name k c named has_column at_one numeric how budget last enough =
+        let least : compared scope (by.Compare compare.Ge ByBytes) (col 1 (suc k)) (col 0 0) ≡ by_bytes compare.Ge (col 1 (suc k)) (col 0 0) = simp (compared, affinity_of, of_column, has.placed, has_column, numeric, converted, may_be_text) in
+        let most : compared scope (by.Compare compare.Le ByBytes) (col 1 (suc k)) (col 0 1) ≡ by_bytes compare.Le (col 1 (suc k)) (col 0 1) = simp (compared, affinity_of, of_column, has.placed, has_column, numeric, converted, may_be_text) in
+        between_given scope name c.name (col 1 (suc k)) (declared here k c) (subst (λ p. Resolves scope None name c.name (col 1 p) (declared here k c)) at_one (resolves_here name k c named has_column)) how least most [] 2 budget last enough
 
   -- ---- the types of its columns
 

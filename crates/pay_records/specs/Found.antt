@@ -1,5 +1,5 @@
 -- What is found in the tables of a ledger.
-use Rattle.std.specs.Prelude.{ℤ, List, map, filter, flat_map}
+use Rattle.std.specs.Prelude.{ℤ, Bool, ◌&&◌, int_le, List, map, filter, flat_map}
 use Rattle.std.specs.Ordering.{int_eq}
 use Rattle.sqlite.specs.State.{State, IsUnchanged}
 use Rattle.pay_rows.specs.declared.row.PostingRow.{PostingRow}
@@ -32,6 +32,36 @@ taps_of account l = map (λ (t : ℤ × TapRow). t.1) (filter (λ (t : ℤ × Ta
 -- and its corrections
 abbrev pub fixes_of : ℤ → LedgerRows → List FixRow
 fixes_of account l = map (λ (f : ℤ × FixRow). f.1) (filter (λ (f : ℤ × FixRow). int_eq f.0 account) l.fixes)
+
+-- of rows that each stand beside an account, those of one
+abbrev pub rows_of : {A : Type 0} → ℤ → List (ℤ × A) → List A
+rows_of {A} account list = map (λ (r : ℤ × A). r.1) (filter (λ (r : ℤ × A). int_eq r.0 account) list)
+
+-- ---- of a stretch of accounts, each row beside its account
+
+-- an account is one of these numbers
+abbrev pub is_between : ℤ → ℤ → ℤ → Bool
+is_between from through account = int_le from account && int_le account through
+
+-- postings, each beside its account, and beside its number
+abbrev pub postings_between : ℤ → ℤ → LedgerRows → List (ℤ × (ℤ × PostingRow))
+postings_between from through l =
+    map (λ (p : ℤ × ℤ × PostingRow). (p.1, (p.0, p.2))) (filter (λ (p : ℤ × ℤ × PostingRow). is_between from through p.1) l.postings)
+
+-- and the shares of these
+abbrev pub shares_between : ℤ → ℤ → LedgerRows → List (ℤ × ShareRow)
+shares_between from through l =
+    flat_map (λ (p : ℤ × (ℤ × PostingRow)). map (λ (s : ShareRow). (p.0, s)) (filter (λ (s : ShareRow). int_eq s.posting p.1.0) l.shares)) (postings_between from through l)
+
+-- archived taps
+abbrev pub taps_between : ℤ → ℤ → LedgerRows → List (ℤ × TapRow)
+taps_between from through l = filter (λ (t : ℤ × TapRow). is_between from through t.0) l.taps
+
+-- and corrections
+abbrev pub fixes_between : ℤ → ℤ → LedgerRows → List (ℤ × FixRow)
+fixes_between from through l = filter (λ (f : ℤ × FixRow). is_between from through f.0) l.fixes
+
+-- ---- of all accounts
 
 -- the account of each posting, of each archived tap and of each correction
 abbrev pub posted_accounts : LedgerRows → List ℤ

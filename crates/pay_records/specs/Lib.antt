@@ -7,6 +7,7 @@ pub mod Copied
 pub mod Steps
 pub mod Told
 pub mod Found
+pub mod Picked
 pub mod Kinds
 pub mod Calls
 pub mod Words

@@ -34,15 +34,19 @@ whole_in (Blob b) = pos 0
 abbrev pub number_at : ℕ → Row → ℤ
 number_at from row = whole_in (column row from)
 
-abbrev pub posting_at : ℕ → Row → PostingRow
-posting_at from row = record {
-  week = whole_in (column row from);
-  through = whole_in (column row (from + 1));
-  version = whole_in (column row (from + 2));
-  due = whole_in (column row (from + 3));
-  amount = whole_in (column row (from + 4));
-  edition = whole_in (column row (from + 5));
-}
+-- beside its number
+abbrev pub posting_at : ℕ → Row → ℤ × PostingRow
+posting_at from row = (
+  whole_in (column row from),
+  record {
+    week = whole_in (column row (from + 1));
+    through = whole_in (column row (from + 2));
+    version = whole_in (column row (from + 3));
+    due = whole_in (column row (from + 4));
+    amount = whole_in (column row (from + 5));
+    edition = whole_in (column row (from + 6));
+  },
+)
 
 abbrev pub share_at : ℕ → Row → ShareRow
 share_at from row = record { posting = whole_in (column row from); operator = whole_in (column row (from + 1)); amount = whole_in (column row (from + 2)) }

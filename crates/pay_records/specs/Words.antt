@@ -5,6 +5,8 @@ pub use Rattle.pay_records.specs.Places.{Places, HasLedgerTables, IsOthers, ledg
 unfoldable pub use Rattle.pay_records.specs.Rows.{HoldsRows}
 pub use Rattle.pay_records.specs.Rows.{LedgerRows, RiseFrom, posting_row, no_rows, with_posting, with_share, with_tap, with_fix}
 pub use Rattle.pay_records.specs.Found.{Finds, FindsFirst, postings_of, shares_of, taps_of, fixes_of, posted_accounts, tapped_accounts, fixed_accounts}
+pub use Rattle.pay_records.specs.Found.{rows_of, is_between, postings_between, shares_between, taps_between, fixes_between}
+pub use Rattle.pay_records.specs.Picked.{postings_picked, shares_picked, taps_picked, fixes_picked}
 pub use Rattle.pay_records.specs.Kinds.{IsOfKind, has_view}
 pub use Rattle.pay_records.specs.Free.{IsFree, ledger_tables, new_tables, empty_is_free}
 unfoldable pub use Rattle.pay_records.specs.FirstVersion.{HoldsFirst}

@@ -37,23 +37,25 @@ pub(crate) trait Told: Sized {
         ensures bad { IfErr result (IsBadUnless (AreWhole from width row.now)) };
 }
 
-/// Week, through, version, due, amount and edition.
-impl Told for PostingRow {
+/// Number, week, through, version, due, amount and edition.
+impl Told for (i64, PostingRow) {
     ghost use Rattle.pay_records.specs.Told.{posting_at};
 
-    ghost width = { 6 };
+    ghost width = { 7 };
 
     ghost told_at = { posting_at };
 
-    fn told(row: &Row, from: usize) -> Result<PostingRow, ReadFault> {
-        Ok(PostingRow {
-            week: whole(row, from)?,
-            through: whole(row, from + 1)?,
-            version: whole(row, from + 2)?,
-            due: whole(row, from + 3)?,
-            amount: whole(row, from + 4)?,
-            edition: whole(row, from + 5)?,
-        })
+    fn told(row: &Row, from: usize) -> Result<(i64, PostingRow), ReadFault> {
+        let number = whole(row, from)?;
+        let posting = PostingRow {
+            week: whole(row, from + 1)?,
+            through: whole(row, from + 2)?,
+            version: whole(row, from + 3)?,
+            due: whole(row, from + 4)?,
+            amount: whole(row, from + 5)?,
+            edition: whole(row, from + 6)?,
+        };
+        Ok((number, posting))
     }
 }
 
@@ -130,7 +132,7 @@ impl Told for i64 {
     }
 }
 
-/// The number or the account that stands before it, and it.
+/// The account that stands before it, and it.
 pub(crate) fn beside<T: Told>(row: &Row) -> Result<(i64, T), ReadFault>
     ensures told { IfOk result (λ it. (it.0 ≡ whole_in (column row.now 0)) × (it.1 ≡ T.told_at 1 row.now)) }
     ensures are_whole { OnOk result (IsWhole (column row.now 0) × AreWhole 1 T.width row.now) }
@@ -153,7 +155,7 @@ pub(crate) fn all<T: Told + Drop>(alloc: Global, rows: &[Row]) -> Result<Vec<T>,
     Ok(list)
 }
 
-/// What all rows tell, each beside the number or the account before it.
+/// What all rows tell, each beside the account before it.
 pub(crate) fn all_beside<T: Told + Drop>(
     alloc: Global,
     rows: &[Row],

@@ -1,15 +1,9 @@
 use Rattle.std.proofs.Common.{rules}
 use Rattle.std.proofs.lemmas.Result.{IfOk-weaker}
 use Rattle.sqlite.specs.Held.{state}
-use Rattle.pay_records.proofs.Says.{never_told_bad, postings_told, postings_whole}
+use Rattle.pay_records.proofs.Alone.{postings_alone}
 use Rattle.pay_records.proofs.read.postings_of.Goals as goal
 
 pub returns-clause-found : goal.returns-clause-found
 returns-clause-found g c clean =
-    IfOk-weaker c.all_beside.result _ _ (λ list told. postings_told (state g.S.Store c.args.tx.now.conn.now) (state g.S.Store c.query.new.tx.conn.now) _ _ _ c.args.account list.items
-    (record { shown = c.in_ok-rows.ensures.shown clean; params_are = search rules; rows_are = c.deref.ensures.value }) told) c.all_beside.ensures.told
-
-pub returns-clause-never_bad : goal.returns-clause-never_bad
-returns-clause-never_bad g c clean bad l held =
-    never_told_bad c.all_beside.result _ c.all_beside.ensures.bad bad (postings_whole (state g.S.Store c.args.tx.now.conn.now) (state g.S.Store c.query.new.tx.conn.now) _ _ _ c.args.account
-    (record { shown = c.in_ok-rows.ensures.shown clean; params_are = search rules; rows_are = c.deref.ensures.value }) l held)
+    IfOk-weaker c.rows_of.result _ _ (λ list told. postings_alone (state g.S.Store c.args.tx.now.conn.now) (state g.S.Store c.postings_between.new.tx.conn.now) _ _ _ c.args.account (search rules) (search rules) (search rules) _ c.deref.result.now list.items c.deref.ensures.value told (c.in_ok-rows.ensures.found clean)) c.rows_of.ensures.found

@@ -1,15 +1,9 @@
 use Rattle.std.proofs.Common.{rules}
 use Rattle.std.proofs.lemmas.Result.{IfOk-weaker}
 use Rattle.sqlite.specs.Held.{state}
-use Rattle.pay_records.proofs.Says.{never_told_bad, shares_told, shares_whole}
+use Rattle.pay_records.proofs.Alone.{shares_alone}
 use Rattle.pay_records.proofs.read.shares_of.Goals as goal
 
 pub returns-clause-found : goal.returns-clause-found
 returns-clause-found g c clean =
-    IfOk-weaker c.all.result _ _ (λ list told. shares_told (state g.S.Store c.args.tx.now.conn.now) (state g.S.Store c.query.new.tx.conn.now) _ _ _ c.args.account list.items
-    (record { shown = c.in_ok-rows.ensures.shown clean; params_are = search rules; rows_are = c.deref.ensures.value }) told) c.all.ensures.told
-
-pub returns-clause-never_bad : goal.returns-clause-never_bad
-returns-clause-never_bad g c clean bad l held =
-    never_told_bad c.all.result _ c.all.ensures.bad bad (shares_whole (state g.S.Store c.args.tx.now.conn.now) (state g.S.Store c.query.new.tx.conn.now) _ _ _ c.args.account
-    (record { shown = c.in_ok-rows.ensures.shown clean; params_are = search rules; rows_are = c.deref.ensures.value }) l held)
+    IfOk-weaker c.rows_of.result _ _ (λ list told. shares_alone (state g.S.Store c.args.tx.now.conn.now) (state g.S.Store c.shares_between.new.tx.conn.now) _ _ _ c.args.account (search rules) (search rules) (search rules) _ c.deref.result.now list.items c.deref.ensures.value told (c.in_ok-rows.ensures.found clean)) c.rows_of.ensures.found
