@@ -10,6 +10,7 @@ pub mod Laws
 pub mod JournalParts
 pub mod ShardParts
 pub mod Merges
+pub mod Splits
 pub mod NewItems
 pub mod Changes
 pub mod Desks

@@ -21,6 +21,7 @@ mod refusal;
 mod reply;
 mod selection;
 mod shard;
+mod splitting;
 mod ticket;
 
 pub use asked::Asked;
