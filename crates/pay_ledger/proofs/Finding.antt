@@ -1,16 +1,10 @@
 -- What is found of an account, of which account, and what passes before it.
-use Rattle.std.proofs.Common.{◌≡◌, ◌≤◌, ◌<◌, ◌<ℤ◌, ℕ, inl, inr, Less, Equal, take, get_or, ℤ, pos, List, [], ◌∷◌, ◌++◌, length, map, Option, Some, None, IfSome, IsPermutation, refl, sym, ap, ap₂, subst, ◌∙◌, arith}
-use Rattle.std.specs.List.{All, AllByRecursion, Contains, zip}
-use Rattle.std.specs.List.Sorted.{IsSorted}
-use Rattle.std.specs.Ordering.{int_cmp, ordering_index}
-use Rattle.std.proofs.lemmas.Bool.{cases_lt}
-use Rattle.std.proofs.lemmas.Cmp.{int_cmp_total, tied_itself}
+use Rattle.std.proofs.Common.{◌≡◌, ◌<◌, ◌<ℤ◌, ℕ, zero, suc, take, get_or, ℤ, pos, List, [], ◌∷◌, ◌++◌, length, map, Option, Some, None, IfSome, refl, sym, ap, ap₂, subst, ◌∙◌, arith}
+use Rattle.std.specs.List.{AllByRecursion, Contains, zip}
 use Rattle.std.proofs.lemmas.Int.{ints}
-use Rattle.std.proofs.lemmas.List.{get_or-map, get_or-take, get_or_default, map-append, length-map, length-take}
-use Rattle.std.proofs.lemmas.List.Elements.{All-get_or, All-from_recursion, recursion_from_All}
-use Rattle.std.proofs.lemmas.List.Sorted.{All-permutation, Contains-permutation, IsPermutation-sym, searchable_from_sorted}
+use Rattle.std.proofs.lemmas.List.{get_or-map, get_or_default, map-append, length-map}
+use Rattle.std.proofs.lemmas.List.Elements.{Contains-get_or, Contains-append_left, Contains-append_right}
 use Rattle.sqlite_keyed.proofs.ListLemmas.{all_weaker}
-use Rattle.sqlite_keyed.proofs.KeyedLemmas.{Less-from_lt}
 use Rattle.sqlite.specs.State.{State}
 use Rattle.sqlite.specs.Effect.{Database}
 use Rattle.pay_rows.specs.declared.row.PostingRow.{PostingRow}
@@ -24,8 +18,11 @@ use Rattle.pay_postings.specs.Laws.{PostingsAreReadBack}
 use Rattle.pay_records.specs.Words.{LedgerRows, HoldsRows}
 use Rattle.pay_ledger.specs.Steps.{FindsRows}
 use Rattle.pay_ledger.specs.Stores.{IsLedger, AreRowsOf, row_of_posting, row_of_tap, row_of_fix}
-use Rattle.pay_ledger.specs.Examined.{accounts, accounts_in, PassesRows, PassRowsBefore, PassUpTo, PassesIn, PassBefore, IsFoundAmong, IsFoundInRows, IsFoundIn}
-use Rattle.pay_ledger.proofs.Passed.{all_of_map, passes_in}
+use Rattle.pay_ledger.specs.Examined.{accounts, accounts_in, PassesRows, PassRowsBefore, PassUpTo, PassesIn, PassBefore, IsFoundOfRows, IsFoundAmong, IsFoundInRows, IsFoundIn}
+use Rattle.pay_ledger.specs.declared.stretch.Stretch.{Stretch}
+use Rattle.pay_ledger.specs.Stretched.{Ascend, HaveSame, HasRowsOf, HasRowsOfEach}
+use Rattle.pay_ledger.proofs.Distinct.{all_alike, contains_alike, smaller}
+use Rattle.pay_ledger.proofs.Passed.{all_of_map, passes_in, has_of_one}
 use Rattle.pay_ledger.proofs.Reading.{read_of_ledger}
 
 -- ---- the accounts of a ledger are those of its rows
@@ -68,9 +65,24 @@ of_numbers list account there =
 
 -- ---- what is found
 
+-- of one of those that were read
+module _ {Found : Type 0} (Passes : ℕ → ArchivedParts → Type 0) (Finds : ℕ → ArchivedParts → Found → Type 0) (stretch : Stretch) (numbers : List ℤ) (i : ℕ) (d number : ℤ) (found : Option (ℕ × Found)) (it : ℕ × Found)
+    (below : i < length numbers) (is : number ≡ get_or numbers i d) (some : found ≡ Some it)
+    (one : (rows : LedgerRows) → HasRowsOf rows stretch number → IfSome found (λ it. (number ≡ pos it.0) × IsFoundOfRows Finds rows it)) where
+  found_of : (rows : LedgerRows) → HasRowsOfEach rows stretch numbers → (get_or numbers i d ≡ pos it.0) × IsFoundOfRows Finds rows it
+  found_of rows has =
+      let told : (number ≡ pos it.0) × IsFoundOfRows Finds rows it = subst (λ o. IfSome o (λ it. (number ≡ pos it.0) × IsFoundOfRows Finds rows it)) some (one rows (subst (HasRowsOf rows stretch) (sym is) (has_of_one stretch numbers i d below rows has))) in
+      (sym is ∙ told.0, told.1)
+
+  pub found_at : (rows : LedgerRows) → HasRowsOfEach rows stretch numbers → IsFoundAmong Finds numbers rows it
+  found_at rows has = let told = found_of rows has in (subst (Contains numbers) told.0 (Contains-get_or numbers i d below), told.1)
+
+  pub up_to_it : ((rows : LedgerRows) → HasRowsOfEach rows stretch numbers → AllByRecursion (PassesRows Passes rows) (take i numbers)) → (rows : LedgerRows) → HasRowsOfEach rows stretch numbers → PassUpTo Passes numbers rows it.0
+  up_to_it before rows has = (i, below, sym (get_or_default numbers i d (pos it.0) below) ∙ (found_of rows has).0, before rows has)
+
 module _ {Found : Type 0} (Finds : ℕ → ArchivedParts → Found → Type 0) where
-  -- all numbers in some order are those of all rows
-  pub of_all : (a b c : State) (list other : List ℤ) (found : Option (ℕ × Found)) → other ≡ list → FindsRows a b (λ rows. IsPermutation (accounts rows) list) → FindsRows b c (λ rows. IfSome found (IsFoundAmong Finds other rows))
+  -- all numbers are those of all rows
+  pub of_all : (a b c : State) (list other : List ℤ) (found : Option (ℕ × Found)) → other ≡ list → FindsRows a b (λ rows. HaveSame (accounts rows) list) → FindsRows b c (λ rows. IfSome found (IsFoundAmong Finds other rows))
       → FindsRows a c (λ rows. IfSome found (IsFoundInRows Finds rows))
   of_all a b c list other None same first second rows k =
       let one = first rows k in
@@ -79,7 +91,19 @@ module _ {Found : Type 0} (Finds : ℕ → ArchivedParts → Found → Type 0) w
   of_all a b c list other (Some it) same first second rows k =
       let one = first rows k in
       let two = second rows (subst (λ db. HoldsRows db rows) (sym one.1) k) in
-      ((Contains-permutation list (accounts rows) (pos it.0) (IsPermutation-sym (accounts rows) list one.0) (subst (λ l. Contains l (pos it.0)) same two.0.0), two.0.1), two.1 ∙ one.1)
+      ((contains_alike (accounts rows) list (pos it.0) one.0 (subst (λ l. Contains l (pos it.0)) same two.0.0), two.0.1), two.1 ∙ one.1)
+
+  -- of a stretch of numbers after others
+  pub found_later : (a b c : State) (done some rest numbers : List ℤ) (found : Option (ℕ × Found)) → done ++ (some ++ rest) ≡ numbers → FindsRows a b (λ rows. Unit {0}) → FindsRows b c (λ rows. IfSome found (IsFoundAmong Finds some rows))
+      → FindsRows a c (λ rows. IfSome found (IsFoundAmong Finds numbers rows))
+  found_later a b c done some rest numbers None are first second rows k =
+      let one = first rows k in
+      let two = second rows (subst (λ db. HoldsRows db rows) (sym one.1) k) in
+      (tt, two.1 ∙ one.1)
+  found_later a b c done some rest numbers (Some it) are first second rows k =
+      let one = first rows k in
+      let two = second rows (subst (λ db. HoldsRows db rows) (sym one.1) k) in
+      ((subst (λ l. Contains l (pos it.0)) are (Contains-append_right done (some ++ rest) (pos it.0) (Contains-append_left some rest (pos it.0) two.0.0)), two.0.1), two.1 ∙ one.1)
 
   -- of a ledger
   pub in_ledger : PostingsAreReadBack → (db : Database) (ledger : LedgerParts) (k : IsLedger db ledger) (found : Option (ℕ × Found)) → IfSome found (IsFoundInRows Finds k.stores.rows) → IfSome found (IsFoundIn Finds ledger)
@@ -92,23 +116,28 @@ module _ {Found : Type 0} (Finds : ℕ → ArchivedParts → Found → Type 0) w
 
 -- ---- what passes before it
 
--- in ascending order all that are smaller than a number stand before it
-smaller : (P : ℤ → Type 0) (list : List ℤ) (q : ℤ) (k : ℕ) → IsSorted int_cmp list → k < length list → get_or list k q ≡ q → AllByRecursion P (take k list) → All (λ n. n <ℤ q → P n) list
-smaller P list q k up below is all = λ j d here less.
-    elim (cases_lt j k) [
-      | inl before ↦ subst P (get_or-take k list j d before) (All-get_or P (take k list) j d (omega (arith, length-take k list)) (All-from_recursion P (take k list) all))
-      | inr after ↦
-          absurd
-          (let rises : ordering_index (int_cmp (get_or list k d) q) ≤ ordering_index (int_cmp (get_or list j d) q) = searchable_from_sorted int_cmp_total (λ n. n) list q up k j d after here in
-          let its : int_cmp (get_or list k d) q ≡ Equal = ap (λ n. int_cmp n q) (get_or_default list k d q below ∙ is) ∙ tied_itself int_cmp_total q in
-          let low : int_cmp (get_or list j d) q ≡ Less = Less-from_lt (get_or list j d) q less in
-          let fell : 1 ≤ 0 = subst (λ r. 1 ≤ ordering_index r) low (subst (λ r. ordering_index r ≤ ordering_index (int_cmp (get_or list j d) q)) its rises) in
-          omega (arith, fell))
-    ]
+-- a number stands in a list behind those of which this is so
+abbrev Comes : (ℤ → Type 0) → ℤ → List ℤ → Type 0
+Comes P q list = (at : ℕ) × (at < length list) × (get_or list at q ≡ q) × AllByRecursion P (take at list)
+
+-- what stands before a number in a list stands before it with others after the list
+with_more : (P : ℤ → Type 0) (q : ℤ) (some rest : List ℤ) (k : ℕ) → k < length some → get_or some k q ≡ q → AllByRecursion P (take k some) → Comes P q (some ++ rest)
+with_more P q [] rest k below is all = absurd (omega (arith, below))
+with_more P q (n ∷ some) rest zero below is all = (zero, omega arith, is, tt)
+with_more P q (n ∷ some) rest (suc k) below is all =
+    let later = with_more P q some rest k (omega (arith, below)) is all.1 in
+    (suc later.0, (let less = later.1 in omega (arith, less)), later.2, (all.0, later.3))
+
+-- and with others before it of which the same is so
+after_others : (P : ℤ → Type 0) (q : ℤ) (done list : List ℤ) → AllByRecursion P done → Comes P q list → Comes P q (done ++ list)
+after_others P q [] list all comes = comes
+after_others P q (n ∷ done) list all comes =
+    let later = after_others P q done list all.1 comes in
+    (suc later.0, (let less = later.1 in omega (arith, less)), later.2, (all.0, later.3))
 
 module _ (Passes : ℕ → ArchivedParts → Type 0) where
   -- of all numbers in ascending order
-  pub first_of_all : {X : Type 0} (a b c : State) (list other : List ℤ) (found : Option (ℕ × X)) → other ≡ list → IsSorted int_cmp list → FindsRows a b (λ rows. IsPermutation (accounts rows) list)
+  pub first_of_all : {X : Type 0} (a b c : State) (list other : List ℤ) (found : Option (ℕ × X)) → other ≡ list → Ascend list → FindsRows a b (λ rows. HaveSame (accounts rows) list)
       → FindsRows b c (λ rows. IfSome found (λ it. PassUpTo Passes other rows it.0)) → FindsRows a c (λ rows. IfSome found (λ it. PassRowsBefore Passes rows it.0))
   first_of_all a b c list other None same up first second rows k =
       let one = first rows k in
@@ -119,9 +148,23 @@ module _ (Passes : ℕ → ArchivedParts → Type 0) where
       let two = second rows (subst (λ db. HoldsRows db rows) (sym one.1) k) in
       let upto : PassUpTo Passes list rows it.0 = subst (λ l. PassUpTo Passes l rows it.0) same two.0 in
       let Before : ℤ → Type 0 = λ number. number <ℤ pos it.0 → PassesRows Passes rows number in (
-        recursion_from_All Before (accounts rows) (All-permutation Before list (accounts rows) (IsPermutation-sym (accounts rows) list one.0) (smaller (PassesRows Passes rows) list (pos it.0) upto.0 up upto.1 upto.2 upto.3)),
+        all_alike Before (accounts rows) list one.0 (smaller (PassesRows Passes rows) list (pos it.0) upto.0 up upto.1 upto.2 upto.3),
         two.1 ∙ one.1,
       )
+
+  -- of a stretch of numbers after others that pass
+  pub first_later : {X : Type 0} (a b c : State) (done some rest numbers : List ℤ) (found : Option (ℕ × X)) → done ++ (some ++ rest) ≡ numbers → FindsRows a b (λ rows. AllByRecursion (PassesRows Passes rows) done)
+      → FindsRows b c (λ rows. IfSome found (λ it. PassUpTo Passes some rows it.0)) → FindsRows a c (λ rows. IfSome found (λ it. PassUpTo Passes numbers rows it.0))
+  first_later a b c done some rest numbers None are first second rows k =
+      let one = first rows k in
+      let two = second rows (subst (λ db. HoldsRows db rows) (sym one.1) k) in
+      (tt, two.1 ∙ one.1)
+  first_later a b c done some rest numbers (Some it) are first second rows k =
+      let one = first rows k in
+      let two = second rows (subst (λ db. HoldsRows db rows) (sym one.1) k) in
+      let P : ℤ → Type 0 = PassesRows Passes rows in
+      let upto : PassUpTo Passes some rows it.0 = two.0 in
+      (subst (Comes P (pos it.0)) are (after_others P (pos it.0) done (some ++ rest) one.0 (with_more P (pos it.0) some rest upto.0 upto.1 upto.2 upto.3)), two.1 ∙ one.1)
 
   -- of a ledger
   pub first_in_ledger : {X : Type 0} → PostingsAreReadBack → (db : Database) (ledger : LedgerParts) (k : IsLedger db ledger) (found : Option (ℕ × X)) → IfSome found (λ it. PassRowsBefore Passes k.stores.rows it.0)

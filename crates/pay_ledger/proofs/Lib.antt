@@ -8,6 +8,8 @@ mod Looking
 mod Asked
 mod Lasting
 mod Readied
+mod Distinct
+mod Stretching
 mod Passed
 mod Finding
 mod Lists

@@ -1,9 +1,8 @@
 -- What is so of each account that is looked at.
-use Rattle.std.proofs.Common.{◌≡◌, ◌≤◌, ◌<◌, ◌+◌, ℕ, ℤ, pos, List, [], ◌∷◌, ◌++◌, take, get_or, length, map, Option, Some, None, IfNone, IfSome, IsPermutation, refl, sym, ap₂, subst, ◌∙◌, arith}
+use Rattle.std.proofs.Common.{◌≡◌, ◌≤◌, ◌<◌, ◌+◌, ℕ, ℤ, pos, List, [], ◌∷◌, ◌++◌, take, get_or, length, map, Option, Some, None, IfNone, refl, sym, ap₂, subst, ◌∙◌, arith}
 use Rattle.std.specs.List.{AllByRecursion}
 use Rattle.std.proofs.lemmas.List.{take_more}
-use Rattle.std.proofs.lemmas.List.Sorted.{All-permutation, IsPermutation-sym}
-use Rattle.std.proofs.lemmas.List.Elements.{recursion_from_All, All-from_recursion}
+use Rattle.std.proofs.lemmas.List.Elements.{All-get_or, All-from_recursion}
 use Rattle.sqlite_keyed.proofs.ListLemmas.{all-append, all_weaker}
 use Rattle.sqlite.specs.State.{State, HasCleanDisk}
 use Rattle.sqlite.specs.Effect.{Database}
@@ -16,22 +15,25 @@ use Rattle.pay_rules.specs.declared.tap.Tap.{Tap}
 use Rattle.pay_rules.specs.declared.fix.Fix.{Fix}
 use Rattle.pay_postings.specs.Words.{LedgerParts, ArchivedParts}
 use Rattle.pay_postings.specs.Laws.{PostingsAreReadBack}
-use Rattle.pay_records.specs.Words.{HoldsRows, Finds}
+use Rattle.pay_records.specs.Words.{LedgerRows, HoldsRows, Finds}
 use Rattle.pay_records.specs.Found.{posted_accounts, tapped_accounts, fixed_accounts}
 use Rattle.pay_ledger.specs.BadRows.{IsReadFrom}
 use Rattle.pay_ledger.specs.Steps.{FindsRows}
 use Rattle.pay_ledger.specs.Stores.{IsLedger, row_of_posting, row_of_tap, row_of_fix}
 use Rattle.pay_ledger.specs.Examined.{accounts, PassesRows, AllPassRows, PassesIn, AllPass}
+use Rattle.pay_ledger.specs.declared.stretch.Stretch.{Stretch}
+use Rattle.pay_ledger.specs.Stretched.{HaveSame, HasRowsOf, HasRowsOfEach}
+use Rattle.pay_ledger.proofs.Distinct.{all_alike}
 use Rattle.pay_ledger.proofs.Reading.{read_of_ledger}
 
 -- the three reads of accounts, and what is made of them
 pub accounts_read : (a b c d : State) (posted tapped fixed list : List ℤ) → Finds a b (λ rows. posted ≡ posted_accounts rows) → Finds b c (λ rows. tapped ≡ tapped_accounts rows) → Finds c d (λ rows. fixed ≡ fixed_accounts rows)
-    → IsPermutation ((posted ++ tapped) ++ fixed) list → FindsRows a d (λ rows. IsPermutation (accounts rows) list)
-accounts_read a b c d posted tapped fixed list first second third moved rows k =
+    → HaveSame ((posted ++ tapped) ++ fixed) list → FindsRows a d (λ rows. HaveSame (accounts rows) list)
+accounts_read a b c d posted tapped fixed list first second third same rows k =
     let one = first rows k in
     let two = second rows (subst (λ db. HoldsRows db rows) (sym one.1.0.now_is) k) in
     let three = third rows (subst (λ db. HoldsRows db rows) (sym (two.1.0.now_is ∙ one.1.0.now_is)) k) in (
-      subst (λ l. IsPermutation l list) (ap₂ ◌++◌ (ap₂ ◌++◌ one.0 two.0) three.0) moved,
+      subst (λ l. HaveSame l list) (ap₂ ◌++◌ (ap₂ ◌++◌ one.0 two.0) three.0) same,
       three.1.0.now_is ∙ two.1.0.now_is ∙ one.1.0.now_is,
     )
 
@@ -58,50 +60,49 @@ module _ {X : Type 0} (P : X → Type 0) where
 
 -- ---- accounts
 
+-- what was read has the rows of each
+pub has_of_one : (stretch : Stretch) (numbers : List ℤ) (i : ℕ) (d : ℤ) → i < length numbers → (rows : LedgerRows) → HasRowsOfEach rows stretch numbers → HasRowsOf rows stretch (get_or numbers i d)
+has_of_one stretch numbers i d below rows has = All-get_or (HasRowsOf rows stretch) numbers i d below (All-from_recursion (HasRowsOf rows stretch) numbers has)
+
 module _ (Passes : ℕ → ArchivedParts → Type 0) where
   -- one account that was read, and passes
-  pub one_passes : (a b : State) (number : ℤ) (account : ℕ) (read : ArchivedParts) → number ≡ pos account → 1 ≤ account → FindsRows a b (λ rows. IsReadFrom rows account read) → Passes account read → FindsRows a b (λ rows. PassesRows Passes rows number)
-  one_passes a b number account read is counts found passes rows k = let it = found rows k in ((account, is, counts, read, it.0, passes), it.1)
+  pub one_passes : (stretch : Stretch) (number : ℤ) (account : ℕ) (read : ArchivedParts) → number ≡ pos account → 1 ≤ account → ((rows : LedgerRows) → HasRowsOf rows stretch (pos account) → IsReadFrom rows account read)
+      → Passes account read → (rows : LedgerRows) → HasRowsOf rows stretch number → PassesRows Passes rows number
+  one_passes stretch number account read is counts found passes rows has = (account, is, counts, read, found rows (subst (HasRowsOf rows stretch) is has), passes)
 
-  -- what passes so far, up to the last number that was looked at
-  pub record HavePassed (a b : State) (last : Option ℤ) (numbers : List ℤ) : Type 0 where
-    pub found : HasCleanDisk b → FindsRows a b (λ rows. AllByRecursion (PassesRows Passes rows) numbers × IfSome last (PassesRows Passes rows))
+  -- one more of those that were read, in which nothing was found
+  pub one_more_passed : {X : Type 0} (stretch : Stretch) (numbers : List ℤ) (i : ℕ) (d number : ℤ) (found : Option X) → i < length numbers → number ≡ get_or numbers i d → found ≡ None
+      → ((rows : LedgerRows) → HasRowsOfEach rows stretch numbers → AllByRecursion (PassesRows Passes rows) (take i numbers)) → ((rows : LedgerRows) → HasRowsOf rows stretch number → IfNone found (PassesRows Passes rows number))
+      → (rows : LedgerRows) → HasRowsOfEach rows stretch numbers → AllByRecursion (PassesRows Passes rows) (take (i + 1) numbers)
+  one_more_passed stretch numbers i d number found below is none before one rows has =
+      let passes : PassesRows Passes rows number = subst (λ o. IfNone o (PassesRows Passes rows number)) none (one rows (subst (HasRowsOf rows stretch) (sym is) (has_of_one stretch numbers i d below rows has))) in
+      subst (AllByRecursion (PassesRows Passes rows)) (sym (take_more numbers i d below))
+      (all-append (PassesRows Passes rows) (take i numbers) (get_or numbers i d ∷ []) (before rows has) (subst (PassesRows Passes rows) is passes, tt))
 
-  pub none_passed : (a : State) → HavePassed a a None []
-  none_passed a = record { found = λ clean rows k. ((tt, tt), refl) }
+  -- what passes so far
+  pub record HavePassed (a b : State) (numbers : List ℤ) : Type 0 where
+    pub found : HasCleanDisk b → FindsRows a b (λ rows. AllByRecursion (PassesRows Passes rows) numbers)
 
-  pub one_more_passed : (a b c : State) (last : Option ℤ) (numbers : List ℤ) (i : ℕ) (d : ℤ) → i < length numbers → (HasCleanDisk c → HasCleanDisk b) → HavePassed a b last (take i numbers)
-      → (HasCleanDisk c → FindsRows b c (λ rows. PassesRows Passes rows (get_or numbers i d))) → HavePassed a c (Some (get_or numbers i d)) (take (i + 1) numbers)
-  one_more_passed a b c last numbers i d below was before one = record {
+  pub none_passed : (a : State) → HavePassed a a []
+  none_passed a = record { found = λ clean rows k. (tt, refl) }
+
+  -- and a stretch more
+  pub more_passed : (a b c : State) (done some : List ℤ) → (HasCleanDisk c → HasCleanDisk b) → HavePassed a b done → (HasCleanDisk c → FindsRows b c (λ rows. AllByRecursion (PassesRows Passes rows) some)) → HavePassed a c (done ++ some)
+  more_passed a b c done some was before more = record {
     found = λ clean rows k.
         let first = before.found (was clean) rows k in
-        let next = one clean rows (subst (λ db. HoldsRows db rows) (sym first.1) k) in (
-          (subst (AllByRecursion (PassesRows Passes rows)) (sym (take_more numbers i d below)) (all-append (PassesRows Passes rows) (take i numbers) (get_or numbers i d ∷ []) first.0.0 (next.0, tt)), next.0),
-          next.1 ∙ first.1,
-        );
+        let next = more clean rows (subst (λ db. HoldsRows db rows) (sym first.1) k) in
+        (all-append (PassesRows Passes rows) done some first.0 next.0, next.1 ∙ first.1);
   }
 
-  -- the same number again passes as it did
-  pub same_again_passed : (a b : State) (last : Option ℤ) (numbers : List ℤ) (i : ℕ) (d : ℤ) → i < length numbers → last ≡ Some (get_or numbers i d) → HavePassed a b last (take i numbers) → HavePassed a b last (take (i + 1) numbers)
-  same_again_passed a b last numbers i d below same before = record {
-    found = λ clean rows k.
-        let first = before.found clean rows k in
-        let again : PassesRows Passes rows (get_or numbers i d) = subst (λ o. IfSome o (PassesRows Passes rows)) same first.0.1 in (
-          (subst (AllByRecursion (PassesRows Passes rows)) (sym (take_more numbers i d below)) (all-append (PassesRows Passes rows) (take i numbers) (get_or numbers i d ∷ []) first.0.0 (again, tt)), first.0.1),
-          first.1,
-        );
-  }
-
-  -- all numbers in some order are those of all rows
-  pub all_passed : (a b c : State) (list : List ℤ) → FindsRows a b (λ rows. IsPermutation (accounts rows) list) → FindsRows b c (λ rows. AllByRecursion (PassesRows Passes rows) list) → FindsRows a c (λ rows. AllPassRows Passes rows)
+  -- all numbers are those of all rows
+  pub all_passed : (a b c : State) (list : List ℤ) → FindsRows a b (λ rows. HaveSame (accounts rows) list) → FindsRows b c (λ rows. AllByRecursion (PassesRows Passes rows) list) → FindsRows a c (λ rows. AllPassRows Passes rows)
   all_passed a b c list first second rows k =
       let one = first rows k in
-      let two = second rows (subst (λ db. HoldsRows db rows) (sym one.1) k) in (
-        recursion_from_All (PassesRows Passes rows) (accounts rows) (All-permutation (PassesRows Passes rows) list (accounts rows) (IsPermutation-sym (accounts rows) list one.0) (All-from_recursion (PassesRows Passes rows) list two.0)),
-        two.1 ∙ one.1,
-      )
+      let two = second rows (subst (λ db. HoldsRows db rows) (sym one.1) k) in
+      (all_alike (PassesRows Passes rows) (accounts rows) list one.0 two.0, two.1 ∙ one.1)
 
-  pub all_found : {X : Type 0} (a b c : State) (list other : List ℤ) (found : Option X) → other ≡ list → FindsRows a b (λ rows. IsPermutation (accounts rows) list) → FindsRows b c (λ rows. IfNone found (AllByRecursion (PassesRows Passes rows) other))
+  pub all_found : {X : Type 0} (a b c : State) (list other : List ℤ) (found : Option X) → other ≡ list → FindsRows a b (λ rows. HaveSame (accounts rows) list) → FindsRows b c (λ rows. IfNone found (AllByRecursion (PassesRows Passes rows) other))
       → FindsRows a c (λ rows. IfNone found (AllPassRows Passes rows))
   all_found a b c list other None same first second rows k = all_passed a b c list first (subst (λ l. FindsRows b c (λ rows. AllByRecursion (PassesRows Passes rows) l)) same second) rows k
   all_found a b c list other (Some x) same first second rows k =

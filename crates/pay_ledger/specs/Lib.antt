@@ -5,6 +5,7 @@ pub mod Stores
 pub mod Opening
 pub mod Steps
 pub mod Examined
+pub mod Stretched
 pub mod Last
 pub mod Calls
 pub mod WorkedRows

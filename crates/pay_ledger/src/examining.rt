@@ -1,16 +1,17 @@
 //! Looking at what a ledger has of each account.
-ghost use Rattle.std.specs.Prelude.{◌≡◌, ◌≤◌, ◌++◌, pos, false, IfNone, IfSome, IfOk, IsPermutation};
+ghost use Rattle.std.specs.Prelude.{◌≡◌, ◌≤◌, ◌<◌, ◌++◌, pos, false, length, None, IfNone, IfSome, IfOk, IsPermutation};
 ghost use Rattle.std.specs.List.{AllByRecursion};
 ghost use Rattle.std.specs.List.Sorted.{IsSorted};
 ghost use Rattle.std.specs.Ordering.{int_cmp};
 ghost use Rattle.pay_postings.specs.Words.{parts};
-ghost use Rattle.pay_records.specs.Words.{LeavesAsBefore};
+ghost use Rattle.pay_records.specs.Words.{LedgerRows, LeavesAsBefore};
 ghost use Rattle.pay_ledger.specs.Examined.{accounts, PassesRows, AllPassRows, PassRowsBefore, PassUpTo, IsFoundOfRows, IsFoundAmong, IsFoundInRows};
+ghost use Rattle.pay_ledger.specs.Stretched.{Ascend, HaveSame, distinct_after, HasRowsOf, AnswersOfStretch};
 ghost use Rattle.pay_ledger.specs.Steps.{IsStep};
 ghost use Rattle.pay_ledger.specs.Calls.{ChangesNothing, AnswersOfRows, FindsInHeldRows};
 
 use crate::fault::LedgerFault;
-use crate::read::read_account;
+use crate::stretch::{Stretch, archived_in, read_stretch};
 use pay_postings::Archived;
 use pay_records::{fixed_accounts, posted_accounts, tapped_accounts};
 use pay_rules::PostFault;
@@ -35,6 +36,24 @@ pub trait Examiner<Found: Drop> {
         ensures finds { IfOk result (λ found. IfSome found (Finds self.now account (parts archived.now))) };
 }
 
+/// How many accounts are read at once.
+const STRETCH: usize = 32;
+
+/// Numbers without those that equal the one before them.
+fn distinct(alloc: Global, numbers: &[i64]) -> Result<Vec<i64>, AllocError>
+    ensures { IfOk result (λ list. list.items ≡ distinct_after None numbers.now) }
+{
+    let mut list = Vec::new(alloc);
+    let mut last = None;
+    for number in numbers {
+        if last != Some(*number) {
+            list.push(*number)?;
+            last = Some(*number);
+        }
+    }
+    Ok(list)
+}
+
 /// All these numbers in ascending order. An `Err` is out of memory.
 fn in_order(posted: Vec<i64>, tapped: &[i64], fixed: &[i64]) -> Result<Vec<i64>, AllocError>
     ensures same { IfOk result (λ list. IsPermutation ((posted.items ++ tapped.now) ++ fixed.now) list.items) }
@@ -47,19 +66,33 @@ fn in_order(posted: Vec<i64>, tapped: &[i64], fixed: &[i64]) -> Result<Vec<i64>,
     Ok(list)
 }
 
-/// The accounts of all postings, archived taps and archived corrections, in ascending order, each as often as it is there.
+/// All these numbers in ascending order, each once. An `Err` is out of memory.
+fn each_once(
+    alloc: Global,
+    posted: Vec<i64>,
+    tapped: &[i64],
+    fixed: &[i64],
+) -> Result<Vec<i64>, AllocError>
+    ensures same { IfOk result (λ list. HaveSame ((posted.items ++ tapped.now) ++ fixed.now) list.items) }
+    ensures ascend { IfOk result (λ list. Ascend list.items) }
+{
+    let list = in_order(posted, tapped, fixed)?;
+    distinct(alloc, &list)
+}
+
+/// The accounts of all postings, archived taps and archived corrections, in ascending order, each once.
 fn all_accounts<S: Alter>(
     alloc: Global,
     tx: &mut Transaction<'_, S>,
 ) -> Result<Vec<i64>, LedgerFault>
     ensures step { IsStep S.Store tx.old.conn tx.new.conn result }
-    ensures found { FindsInHeldRows S.Store tx.old.conn.now tx.new.conn.now result (λ rows list. IsPermutation (accounts rows) list.items) }
-    ensures ascending { IfOk result (λ list. IsSorted int_cmp list.items) }
+    ensures found { FindsInHeldRows S.Store tx.old.conn.now tx.new.conn.now result (λ rows list. HaveSame (accounts rows) list.items) }
+    ensures ascend { IfOk result (λ list. Ascend list.items) }
 {
     let posted = posted_accounts(alloc, tx)?;
     let tapped = tapped_accounts(alloc, tx)?;
     let fixed = fixed_accounts(alloc, tx)?;
-    let list = in_order(posted, &tapped, &fixed)?;
+    let list = each_once(alloc, posted, &tapped, &fixed)?;
     Ok(list)
 }
 
@@ -73,45 +106,79 @@ fn account_of(number: i64) -> Result<u32, LedgerFault>
     }
 }
 
-/// Reads what there is of an account, and has it examined.
-fn examine_one<S: Alter, Found: Drop, E: Examiner<Found>>(
+/// Has what was read of an account examined.
+fn examine_one<Found: Drop, E: Examiner<Found>>(
     alloc: Global,
-    tx: &mut Transaction<'_, S>,
+    stretch: &Stretch,
     number: i64,
     examiner: &E,
 ) -> Result<Option<(u32, Found)>, LedgerFault>
-    ensures step { IsStep S.Store tx.old.conn tx.new.conn result }
-    ensures found { FindsInHeldRows S.Store tx.old.conn.now tx.new.conn.now result (λ rows found. IfNone found (PassesRows (E.Passes examiner.now) rows number)) }
-    ensures finds { FindsInHeldRows S.Store tx.old.conn.now tx.new.conn.now result (λ rows found. IfSome found (λ it. (number ≡ pos it.0) × IsFoundOfRows (E.Finds examiner.now) rows it)) }
+    ensures found { IfOk result (λ found. (rows : LedgerRows) → HasRowsOf rows stretch.now number → IfNone found (PassesRows (E.Passes examiner.now) rows number)) }
+    ensures finds { IfOk result (λ found. (rows : LedgerRows) → HasRowsOf rows stretch.now number → IfSome found (λ it. (number ≡ pos it.0) × IsFoundOfRows (E.Finds examiner.now) rows it)) }
 {
     let account = account_of(number)?;
-    let archived = read_account(alloc, tx, account)?;
+    let archived = archived_in(alloc, stretch, account)?;
     match examiner.examine(account, &archived)? {
         Some(found) => Ok(Some((account, found))),
         None => Ok(None),
     }
 }
 
-/// Has the accounts of these numbers, which ascend, examined one after another, each once, up to one of which something is found.
-fn examine_each<S: Alter, Found: Drop, E: Examiner<Found>>(
+/// Has the accounts of these numbers examined one after another, by what was read of them, up to one of which something is found.
+fn examine_each<Found: Drop, E: Examiner<Found>>(
+    alloc: Global,
+    stretch: &Stretch,
+    numbers: &[i64],
+    examiner: &E,
+) -> Result<Option<(u32, Found)>, LedgerFault>
+    ensures found { AnswersOfStretch result stretch.now numbers.now (λ rows found. IfNone found (AllByRecursion (PassesRows (E.Passes examiner.now) rows) numbers.now)) }
+    ensures finds { AnswersOfStretch result stretch.now numbers.now (λ rows found. IfSome found (IsFoundAmong (E.Finds examiner.now) numbers.now rows)) }
+    ensures up_to { AnswersOfStretch result stretch.now numbers.now (λ rows found. IfSome found (λ it. PassUpTo (E.Passes examiner.now) numbers.now rows it.0)) }
+{
+    for number in numbers {
+        match examine_one(alloc, stretch, *number, examiner)? {
+            Some(found) => return Ok(Some(found)),
+            None => {}
+        }
+    }
+    Ok(None)
+}
+
+/// Reads the accounts of these numbers at once, and has them examined.
+fn examine_stretch<S: Alter, Found: Drop, E: Examiner<Found>>(
     alloc: Global,
     tx: &mut Transaction<'_, S>,
     numbers: &[i64],
     examiner: &E,
 ) -> Result<Option<(u32, Found)>, LedgerFault>
+    requires some { 0 < length numbers.now }
+    requires ascend { Ascend numbers.now }
     ensures step { IsStep S.Store tx.old.conn tx.new.conn result }
     ensures found { FindsInHeldRows S.Store tx.old.conn.now tx.new.conn.now result (λ rows found. IfNone found (AllByRecursion (PassesRows (E.Passes examiner.now) rows) numbers.now)) }
     ensures finds { FindsInHeldRows S.Store tx.old.conn.now tx.new.conn.now result (λ rows found. IfSome found (IsFoundAmong (E.Finds examiner.now) numbers.now rows)) }
     ensures up_to { FindsInHeldRows S.Store tx.old.conn.now tx.new.conn.now result (λ rows found. IfSome found (λ it. PassUpTo (E.Passes examiner.now) numbers.now rows it.0)) }
 {
-    let mut last = None;
-    for number in numbers {
-        if last == Some(*number) {
-            continue;
-        }
-        match examine_one(alloc, tx, *number, examiner)? {
+    let stretch = read_stretch(alloc, tx, numbers)?;
+    examine_each(alloc, &stretch, numbers, examiner)
+}
+
+/// Has the accounts of these numbers examined, a stretch of them after another, up to one of which something is found.
+fn examine_all<S: Alter, Found: Drop, E: Examiner<Found>>(
+    alloc: Global,
+    tx: &mut Transaction<'_, S>,
+    numbers: &[i64],
+    examiner: &E,
+) -> Result<Option<(u32, Found)>, LedgerFault>
+    requires ascend { Ascend numbers.now }
+    ensures step { IsStep S.Store tx.old.conn tx.new.conn result }
+    ensures found { FindsInHeldRows S.Store tx.old.conn.now tx.new.conn.now result (λ rows found. IfNone found (AllByRecursion (PassesRows (E.Passes examiner.now) rows) numbers.now)) }
+    ensures finds { FindsInHeldRows S.Store tx.old.conn.now tx.new.conn.now result (λ rows found. IfSome found (IsFoundAmong (E.Finds examiner.now) numbers.now rows)) }
+    ensures up_to { FindsInHeldRows S.Store tx.old.conn.now tx.new.conn.now result (λ rows found. IfSome found (λ it. PassUpTo (E.Passes examiner.now) numbers.now rows it.0)) }
+{
+    for some in numbers.chunks(STRETCH) {
+        match examine_stretch(alloc, tx, some, examiner)? {
             Some(found) => return Ok(Some(found)),
-            None => last = Some(*number),
+            None => {}
         }
     }
     Ok(None)
@@ -129,7 +196,7 @@ fn examine_in<S: Alter, Found: Drop, E: Examiner<Found>>(
     ensures first { FindsInHeldRows S.Store tx.old.conn.now tx.new.conn.now result (λ rows found. IfSome found (λ it. PassRowsBefore (E.Passes examiner.now) rows it.0)) }
 {
     let numbers = all_accounts(alloc, tx)?;
-    examine_each(alloc, tx, &numbers, examiner)
+    examine_all(alloc, tx, &numbers, examiner)
 }
 
 /// Has all accounts of a ledger examined, in ascending order.

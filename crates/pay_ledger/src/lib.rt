@@ -10,6 +10,7 @@ mod lookup;
 mod opening;
 mod post;
 mod read;
+mod stretch;
 mod write;
 
 pub use examining::Examiner;

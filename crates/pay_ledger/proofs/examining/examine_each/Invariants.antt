@@ -1,10 +1,9 @@
 use Rattle.std.proofs.Common.{take}
-use Rattle.sqlite.specs.Held.{state}
-use Rattle.pay_ledger.specs.Steps.{HasGoneOn}
-use Rattle.pay_ledger.proofs.Passed.{HavePassed}
+use Rattle.std.specs.List.{AllByRecursion}
+use Rattle.pay_records.specs.Words.{LedgerRows}
+use Rattle.pay_ledger.specs.Examined.{PassesRows}
+use Rattle.pay_ledger.specs.Stretched.{HasRowsOfEach}
 use Rattle.pay_ledger.proofs.examining.examine_each.Given as goal
 
 abbrev pub invariant-loop-number : goal.invariant-loop-number
-invariant-loop-number g l =
-    HasGoneOn g.S.Store l.fn.tx.conn l.tx.conn
-    × HavePassed (g.E.Examiner.Passes l.examiner) (state g.S.Store l.fn.tx.conn.now) (state g.S.Store l.tx.conn.now) l.last (take l.number-index l.numbers)
+invariant-loop-number g l = (rows : LedgerRows) → HasRowsOfEach rows l.stretch l.numbers → AllByRecursion (PassesRows (g.E.Examiner.Passes l.examiner) rows) (take l.number-index l.numbers)
