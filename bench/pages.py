@@ -1,10 +1,11 @@
 #!/usr/bin/env python3
-"""pages: how long pages and texts of one account take beside two million lines of others, and the memory of what shows
-them. See README.md."""
+"""pages: how long pages and texts of one account take beside two million lines of others, with a ledger and without one, and the
+memory of what shows them. See README.md."""
 
 import argparse
 import contextlib
 import http.client
+import os
 import statistics
 import subprocess
 import sys
@@ -15,10 +16,11 @@ from programs import LONDON, OUT, ROOT, asked, on_one_core, peak_bytes
 from serve import HOST, free_port
 
 FARES = f"{ROOT}/examples/bus.toml"
-JOURNAL = f"{OUT}/page-journal"
+JOURNAL, LEDGER = f"{OUT}/page-journal", f"{OUT}/page-ledger"
 # 07:00 of a Monday in London; how many days the lines are of; and the account that is asked for.
 SEVEN, MONDAY, DAYS, ACCOUNT = 1_704_697_200, 19_730, 100, 7
 LAST = MONDAY + DAYS - 1
+SUNDAY = LAST + (MONDAY - 1 - LAST) % 7
 
 
 def write_journal(lines, accounts, own):
@@ -29,6 +31,15 @@ def write_journal(lines, accounts, own):
         for number in range(lines):
             account = ACCOUNT if number % every == 0 and number // every < own else 100 + number % accounts
             it.write(f"TAP 1 {number} {account} {SEVEN + number * (DAYS - 1) * 86_400 // lines} 50 BUS\n")
+
+
+def write_ledger(program):
+    """A ledger into which the last week of all accounts was closed."""
+    for path in (LEDGER, f"{LEDGER}-wal"):
+        if os.path.exists(path):
+            os.remove(path)
+    words = [program, "run", FARES, LONDON, "--journal", JOURNAL, "--ledger", LEDGER]
+    subprocess.run(words, input=f"CLOSE {SUNDAY}\n".encode(), stdout=subprocess.DEVNULL, check=True)
 
 
 def seconds(command):
@@ -54,11 +65,11 @@ def status_of(port, target):
         return it.status
 
 
-def measure_pages(program, requests):
-    """How long it takes until there are pages, the times of requests for one, and the peak of memory."""
+def measure_pages(program, requests, ledger):
+    """How long it takes until there are pages, with these words about a ledger, the times of requests for one, and the peak of memory."""
     port = free_port(1)
     began = time.perf_counter()
-    words = [program, "page", FARES, LONDON, "--journal", JOURNAL, "--port", str(port)]
+    words = [program, "page", FARES, LONDON, "--journal", JOURNAL, "--port", str(port), *ledger]
     with subprocess.Popen(words, stdin=subprocess.DEVNULL, stderr=subprocess.DEVNULL) as process:
         try:
             while status_of(port, "/healthz") != 200:
@@ -86,16 +97,23 @@ def main():
     words = asked(words)
     program = words.program
     write_journal(words.lines, words.accounts, words.own)
+    write_ledger(program)
+    posted = ["--ledger", LEDGER]
     explain = [program, "explain", FARES, LONDON, str(ACCOUNT), str(LAST), "--journal", JOURNAL, "--week"]
     replay = [program, "replay", FARES, LONDON, JOURNAL]
-    explained, replayed = zip(*((seconds(explain), seconds(replay)) for _ in range(words.rounds)))
-    ready, took, peak = measure_pages(program, words.requests)
+    texts = {"explain --week": explain, "the same, --ledger": [*explain, *posted], "replay": replay}
+    times = {name: [] for name in texts}
+    for _ in range(words.rounds):
+        for name, command in texts.items():
+            times[name].append(seconds(command))
     print(f"{words.lines:,} lines, {words.own} of the account; texts on one core, medians of {words.rounds}")
-    print(f"explain --week       {statistics.median(explained):8.2f} s")
-    print(f"replay               {statistics.median(replayed):8.2f} s")
-    print(f"pages are there in   {ready:8.2f} s, in {peak / 2**20:.0f} MiB, {peak / words.lines:.0f} bytes a line")
-    middle, longest = 1e3 * statistics.median(took), 1e3 * max(took)
-    print(f"a page of the week   {middle:8.1f} ms, the longest of {len(took)} {longest:.1f} ms")
+    for name, took in times.items():
+        print(f"{name:<20} {statistics.median(took):8.2f} s")
+    for name, ledger in (("pages", []), ("pages --ledger", posted)):
+        ready, took, peak = measure_pages(program, words.requests, ledger)
+        middle, longest = 1e3 * statistics.median(took), 1e3 * max(took)
+        print(f"{name:<20} {ready:8.2f} s until they are there, {peak / 2**20:.0f} MiB, {peak / words.lines:.0f} bytes a line")
+        print(f"{'  a week':<20} {middle:8.1f} ms, the longest of {len(took)} {longest:.1f} ms")
 
 
 if __name__ == "__main__":
