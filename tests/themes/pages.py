@@ -468,6 +468,23 @@ class Posted(Theme):
             os.replace(os.path.join(self.folder, "again"), copy)
             self.check("the copy again", posted_in(asked(port, f"/week?{week}").body), list(rows_of(POSTED, 4)))
 
+    def test_a_copy_that_stays_open(self):
+        """The copy is opened once, and again where something was written into it; to no other program."""
+        journal, copy = self.close()
+        whole, week = bytes_of(copy), f"account=7&day={MONDAY}"
+        explain = ["explain", SAMPLE, LONDON, "7", str(MONDAY), "--journal", journal, "--ledger", copy]
+        with shown(journal, ledger=copy) as (_, port):
+            for after in ("its start", "another program"):
+                self.check(f"a page after {after}", posted_in(asked(port, f"/week?{week}").body), list(rows_of(POSTED, 4)))
+                self.check(f"another program after {after}", run(explain), fault("43 Store"))
+            with open(copy, "r+b") as it:
+                it.write(b"no ledger at all")
+            self.check("written over", asked(port, f"/week?{week}").body.count(UNKNOWN), 1)
+            with open(copy, "r+b") as it:
+                it.write(whole[:16])
+            self.check("mended", posted_in(asked(port, f"/week?{week}").body), list(rows_of(POSTED, 4)))
+        self.check("another program, after its end", run(explain).status, 0)
+
     def test_what_is_no_ledger(self):
         """What is no ledger is refused at the start, and so is one that a service has open."""
         journal, _ = self.close()

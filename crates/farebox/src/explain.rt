@@ -1,9 +1,8 @@
 //! The job `explain`.
 ghost use Rattle.pay_jobs.specs.Words.{IsDay};
 
-use crate::missing::refuse_missing;
 use pay_explain_job::{explain_texts, explain_with_ledger};
-use pay_files::{Ledgers, fares_text, path_of, report_line, texts_at};
+use pay_files::{Ledgers, fares_text, path_of, refuse_missing, report_line, texts_at};
 use pay_jobs::{Alter, Fault, Ledger};
 use pay_log::Log;
 use pay_words::ExplainWords;

@@ -2,7 +2,6 @@
 #![tactic(auto)]
 
 mod explain;
-mod missing;
 mod page;
 mod program;
 mod serve;

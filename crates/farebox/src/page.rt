@@ -1,8 +1,7 @@
 //! The job `page`.
 
-use crate::missing::refuse_missing;
 use pay_clerks::Clerks;
-use pay_files::{Ledgers, fares_text, path_in, print_warnings};
+use pay_files::{Ledgers, fares_text, path_in, print_warnings, refuse_missing};
 use pay_jobs::{Alter, Fault, FileFault, Ledger};
 use pay_log::{Level, Log};
 use pay_page_job::{Given, LooksUp, StaffPort, serve_pages};
@@ -10,8 +9,9 @@ use pay_rules::Postings;
 use pay_words::PageWords;
 use std::alloc::AllocError;
 use std::fs;
-use std::fs::File;
+use std::fs::{File, Metadata};
 use std::net::{Net, TcpListener, TcpStream};
+use std::os::unix::fs::MetadataExt;
 use std::process::ExitCode;
 use std::random::RandomSource;
 use std::rt::{Clock, Files};
@@ -21,37 +21,63 @@ use std::thread::Threads;
 /// How many journals a service has.
 const JOURNALS: u64 = 16;
 
-/// A ledger in the file at a path. It is opened for each question, so a copy that takes its place is seen at once.
+/// A ledger in the file at a path. It stays open until another file is there, so a copy that takes its place is seen by the next question.
 #[derive(Drop)]
-struct LedgerAt<R> {
+struct LedgerAt<R, S: Alter> {
     rt: R,
     path: String,
+    open: Option<OpenLedger<S>>,
 }
 
-impl<R, S: Alter + Drop> LooksUp for LedgerAt<R>
+/// A ledger, and what its file was before it was opened, if that could be told.
+#[derive(Drop)]
+struct OpenLedger<S: Alter> {
+    file: Option<Metadata>,
+    ledger: Ledger<S>,
+}
+
+impl<R, S: Alter + Drop> LedgerAt<R, S>
 where
     R: Files<File = File> + Ledgers<InFile = Ledger<S>>,
 {
-    fn postings(&self, account: u32, week: u32) -> Result<Postings, Fault> {
-        postings_in(&self.rt, self.path.as_str(), account, week)
+    /// The ledger in the file that is at the path now.
+    fn now(&mut self) -> Result<OpenLedger<S>, Fault> {
+        refuse_missing(&self.rt, self.path.as_str())?;
+        let file = fs::metadata(&self.rt, self.path.as_str()).ok();
+        if let Some(open) = self.open.take() {
+            if is_same(&open.file, &file) {
+                return Ok(open);
+            }
+            self.rt.close(open.ledger);
+        }
+        let ledger = self.rt.existing_ledger(self.path.as_str())?;
+        Ok(OpenLedger { file, ledger })
     }
 }
 
-/// What was posted for an account and a week, by the ledger in the file at a path.
-fn postings_in<R, S: Alter + Drop>(
-    rt: &R,
-    path: &str,
-    account: u32,
-    week: u32,
-) -> Result<Postings, Fault>
+impl<R, S: Alter + Drop> LooksUp for LedgerAt<R, S>
 where
     R: Files<File = File> + Ledgers<InFile = Ledger<S>>,
 {
-    refuse_missing(rt, path)?;
-    let mut ledger = rt.existing_ledger(path)?;
-    let postings = ledger.postings(account, week);
-    rt.close(ledger);
-    Ok(postings?)
+    fn postings(&mut self, account: u32, week: u32) -> Result<Postings, Fault> {
+        let mut open = self.now()?;
+        // After a fault the next question opens it again.
+        let postings = open.ledger.postings(account, week)?;
+        self.open = Some(open);
+        Ok(postings)
+    }
+}
+
+/// Whether it is the same file, and nothing was written into it.
+fn is_same(old: &Option<Metadata>, new: &Option<Metadata>) -> bool {
+    let (Some(old), Some(new)) = (old, new) else {
+        return false;
+    };
+    old.dev() == new.dev()
+        && old.ino() == new.ino()
+        && old.size() == new.size()
+        && old.mtime() == new.mtime()
+        && old.mtime_nsec() == new.mtime_nsec()
 }
 
 /// Shows why accounts were charged, by the journal at a path or those in a folder, and what a ledger has of it, until the program is ended.
@@ -94,20 +120,23 @@ where
         service: service_of(&rt, words)?,
         clerks,
     };
-    serve_pages(rt, given, ledger.as_ref())?;
+    serve_pages(rt, given, ledger)?;
     Ok(ExitCode::SUCCESS)
 }
 
 /// The ledger in the file at a path, if there is one that can be read.
-fn ledger_at<R, S: Alter + Drop>(rt: R, path: &str) -> Result<LedgerAt<R>, Fault>
+fn ledger_at<R, S: Alter + Drop>(rt: R, path: &str) -> Result<LedgerAt<R, S>, Fault>
 where
     R: Files<File = File> + Ledgers<InFile = Ledger<S>> + AllocGlobal + Copy,
 {
-    refuse_missing(&rt, path)?;
-    let ledger = rt.existing_ledger(path)?;
-    rt.close(ledger);
     let path = text_of(&rt, path)?;
-    Ok(LedgerAt { rt, path })
+    let mut ledger = LedgerAt {
+        rt,
+        path,
+        open: None,
+    };
+    ledger.open = Some(ledger.now()?);
+    Ok(ledger)
 }
 
 /// Where a service is asked, if it is.

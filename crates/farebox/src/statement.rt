@@ -1,9 +1,10 @@
 //! The job `statement`, in its long form too.
 ghost use Rattle.pay_jobs.specs.Words.{IsDay};
 
-use crate::missing::refuse_missing;
 use pay_explain_job::{statement_by_texts, statement_with_ledger, write_text};
-use pay_files::{Ledgers, fares_text, path_of, report_line, texts_at, write_statement};
+use pay_files::{
+    Ledgers, fares_text, path_of, refuse_missing, report_line, texts_at, write_statement,
+};
 use pay_jobs::{Alter, Fault, Ledger};
 use pay_log::Log;
 use pay_words::StatementWords;

@@ -181,7 +181,7 @@ fn print_audit<R: Print>(rt: &R, found: &Audit) -> io::Result<()> {
 }
 
 /// Refuses a ledger that is not there, or has nothing: its file would be made.
-fn refuse_missing<R: Files>(rt: &R, path: &str) -> Result<(), Fault> {
+pub fn refuse_missing<R: Files>(rt: &R, path: &str) -> Result<(), Fault> {
     if is_new_ledger(rt, path) {
         return Err(Fault::File(FileFault::NoLedger));
     }

@@ -22,7 +22,7 @@ mod start;
 mod stats;
 mod texts;
 
-pub use audit::{audit_files, path_of, rebuild_lines, texts_at};
+pub use audit::{audit_files, path_of, rebuild_lines, refuse_missing, texts_at};
 pub use check::check_fares;
 pub use close_watch::CloseWatch;
 pub use errors::memory_or;

@@ -91,7 +91,11 @@ impl Shared {
 
 /// Answers browsers until the program is ended. A fare file or a zone that is refused is a fault before anything else, and so are journals
 /// that cannot be read then. What was posted is told by a ledger, if there is one.
-pub fn serve_pages<R, L: LooksUp>(rt: R, given: Given, ledger: Option<&L>) -> Result<(), Fault>
+pub fn serve_pages<R, L: LooksUp + Drop>(
+    rt: R,
+    given: Given,
+    mut ledger: Option<L>,
+) -> Result<(), Fault>
 where
     R: Net<Listener = TcpListener, Stream = TcpStream>
         + Threads
@@ -162,7 +166,7 @@ where
     );
     for _ in rt.forever() {
         let _ = journals.read_on();
-        if let Some(ledger) = ledger {
+        if let Some(ledger) = &mut ledger {
             journals.answer(ledger);
         }
         journals.pause(Duration::from_millis(PAUSE));

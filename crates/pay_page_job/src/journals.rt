@@ -246,7 +246,7 @@ impl<R: Files<File = File> + Clock + Wait + Log + AllocGlobal + Copy> Journals<R
     }
 
     /// Answers what was asked about postings. What is not known is said.
-    pub fn answer<L: LooksUp>(&self, ledger: &L) {
+    pub fn answer<L: LooksUp>(&self, ledger: &mut L) {
         for place in 0..self.sources.desk.count(&self.rt) {
             if let Some((ticket, question)) = self.sources.desk.question(&self.rt, place) {
                 let answer = self.looked_up(ledger, question);
@@ -256,7 +256,7 @@ impl<R: Files<File = File> + Clock + Wait + Log + AllocGlobal + Copy> Journals<R
     }
 
     /// What was posted, if that can be told.
-    fn looked_up<L: LooksUp>(&self, ledger: &L, question: PostedQuestion) -> Option<Postings> {
+    fn looked_up<L: LooksUp>(&self, ledger: &mut L, question: PostedQuestion) -> Option<Postings> {
         match ledger.postings(question.account, question.week) {
             Ok(postings) => Some(postings),
             Err(Fault::Refused { number, name }) => {
