@@ -361,7 +361,9 @@ class Fixes(Theme):
                 "none behind the number": ANN._replace(secret="").basic(), "another's number": of_bob,
                 "nobody's number": ANN._replace(staff=18).basic(), "no number": "Basic Og==", "no base64": "Basic ***",
                 "a number with a zero": "Basic " + base64.b64encode(f"017:{ANN.secret}".encode()).decode(),
-                "another scheme": ANN.basic().replace("Basic", "Bearer"), "nothing": "",
+                "another scheme": ANN.basic().replace("Basic", "Bearer"), "nothing": "", "two spaces": ANN.basic().replace(" ", "  "),
+                "no padding": ANN.basic().rstrip("="), "a letter that is no symbol": ANN.basic()[:-2] + "*=",
+                "a number alone": "Basic " + base64.b64encode(b"17").decode(),
             }
             origins = (
                 None, "null", "", "http://example.com", f"https://{HOST}:{port}", f"http://{HOST}:{port + 1}", f"http://{HOST}",
@@ -546,6 +548,18 @@ class Fixes(Theme):
             tries(ANN._replace(staff=18), "open sesame")
             said("farebox: a secret with the number of no clerk")
             self.check("the right one", office.post("/preview", f"{of_day(7)}&what=VOID+1+1").status, 200)
+
+    def test_secrets(self):
+        """A thousand clerks, among them one with no secret and one with the longest; one that is longer is not read."""
+        longest, longer = Clerk(17, 0, "x" * 765, "Carl"), Clerk(18, 0, "x" * 768, "Dora")
+        self.check("symbols", [len(it.basic()) - len("Basic ") for it in (longest, longer)], [1_024, 1_028])
+        none = Clerk(19, 0, "", "Eve")
+        others = [Clerk(number, 0, "another", "Frank") for number in range(20, 1_017)]
+        journal = written(self.folder, "journal", WINTER_IN.encode())
+        with shown(journal, SAMPLE, 9, staff_file(self.folder, longest, longer, none, *others)) as (ran, port):
+            office = Office(9, self.folder, port, ran)
+            for name, clerk, wanted in (("longest", longest, 200), ("none", none, 200), ("the last", others[-1], 200), ("longer", longer, 401)):
+                self.check(name, office.post("/preview", f"{of_day(7)}&what=VOID+1+1", clerk).status, wanted)
 
     def test_restarts(self):
         """A form from before the pages were started again is not sent, and says what to do."""

@@ -9,8 +9,6 @@ pub mod laws;
 pub mod limits;
 mod line;
 mod numeral;
-#[cfg(test)]
-mod tests;
 
 pub use clerk::Clerk;
 pub use clerks::Clerks;
