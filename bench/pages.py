@@ -35,7 +35,7 @@ def write_journal(lines, accounts, own):
 
 def write_ledger(program):
     """A ledger into which the last week of all accounts was closed."""
-    for path in (LEDGER, f"{LEDGER}-wal"):
+    for path in (LEDGER, f"{LEDGER}-wal", f"{JOURNAL}.fares", f"{JOURNAL}.posted"):
         if os.path.exists(path):
             os.remove(path)
     words = [program, "run", FARES, LONDON, "--journal", JOURNAL, "--ledger", LEDGER]

@@ -54,7 +54,7 @@ def main():
     words.add_argument("--rounds", type=int, default=3)
     words = asked(words)
     session = [words.program, "run", FARES, LONDON, "--journal", JOURNAL]
-    for path in (LEDGER, f"{LEDGER}-wal", f"{JOURNAL}.fares"):
+    for path in (LEDGER, f"{LEDGER}-wal", f"{JOURNAL}.fares", f"{JOURNAL}.posted"):
         if os.path.exists(path):
             os.remove(path)
     write_journal(words.accounts, words.each)
