@@ -17,7 +17,7 @@ from oracle.loads import DAY, LOADS, WEEK
 
 COUNTS = f"{OUT}/callgrind"
 # What functions of the C library do, by their names.
-OF_LIBRARY = (("copies", r"_*mem(cpy|move|set|cmp|chr)"), ("allocator", r"_*(int_)?(malloc|free|calloc|realloc|unlink_chunk|tcache)"))
+OF_LIBRARY = (("copies and fills", r"_*mem(cpy|move|set)"), ("allocator", r"_*(int_)?(malloc|free|calloc|realloc|unlink_chunk|tcache)"))
 
 
 def part_of(function):
@@ -77,11 +77,11 @@ def main():
         lines = [rules.line(command) for command in load.commands(words.seed, 200_000)[: words.lines]]
         parts = run(words.program, fares, lines)
         parts.subtract(run(words.program, fares, []))
-        shown = {name: count // len(lines) for name, count in parts.most_common() if count >= words.least * len(lines)}
-        print(f"{load.name}: {sum(parts.values()) // len(lines):,} instructions a line, of the first {len(lines):,}, without the start")
-        for name, count in shown.items():
+        whole = sum(parts.values()) // len(lines)
+        print(f"{load.name}: {whole:,} instructions a line, of the first {len(lines):,}, without the start")
+        shown = [(name, count // len(lines)) for name, count in parts.most_common() if count >= words.least * len(lines)]
+        for name, count in [*shown, ("all others", whole - sum(count for _, count in shown))]:
             print(f"  {name:<24} {count:7,}")
-        print(f"  {'all others':<24} {sum(parts.values()) // len(lines) - sum(shown.values()):7,}")
 
 
 if __name__ == "__main__":

@@ -477,6 +477,10 @@ class Posted(Theme):
             for after in ("its start", "another program"):
                 self.check(f"a page after {after}", posted_in(asked(port, f"/week?{week}").body), list(rows_of(POSTED, 4)))
                 self.check(f"another program after {after}", run(explain), fault("43 Store"))
+            # No program opens a file of two names.
+            os.link(copy, f"{copy}.other")
+            self.check("with another name", posted_in(asked(port, f"/week?{week}").body), list(rows_of(POSTED, 4)))
+            os.remove(f"{copy}.other")
             with open(copy, "r+b") as it:
                 it.write(b"no ledger at all")
             self.check("written over", asked(port, f"/week?{week}").body.count(UNKNOWN), 1)
