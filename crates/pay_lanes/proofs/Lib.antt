@@ -8,7 +8,6 @@ pub mod InMemory
 pub mod Numbers
 pub mod Openings
 pub mod Ordered
-pub mod Over
 pub mod Owned
 pub mod Rows
 pub mod Same

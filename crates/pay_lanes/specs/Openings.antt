@@ -3,7 +3,6 @@ use Rattle.std.specs.Prelude.{◌≡◌, ℕ, ◌+◌, ◌<◌, ◌≢◌, ◌�
 use Rattle.std.specs.FinMap.{empty}
 use Rattle.pay_tables.specs.Words.{FareEditions}
 use Rattle.pay_mailbox.specs.Words.{SenderParts, ReceiverParts, sender_of, receiver_of}
-use Rattle.pay_shard.specs.Words.{ShardParts}
 use Rattle.pay_shard.specs.declared.item.Entry.{Entry}
 use Rattle.pay_shard.specs.declared.reply.Answer.{Answer}
 use Rattle.pay_shard.specs.declared.limits.TheConstants.{MOST_SHARDS}
@@ -17,10 +16,6 @@ IsOutOfCount shards lanes gates = (shards ≡ 0) ⊎ (MOST_SHARDS < shards) ⊎ 
 -- the numbers of the shards
 abbrev pub shard_numbers : List WorkerParts → List ℕ
 shard_numbers workers = map (λ (w : WorkerParts). w.shard.number) workers
-
--- the shards of workers
-abbrev pub shards_of : List WorkerParts → List ShardParts
-shards_of workers = map (λ (w : WorkerParts). w.shard) workers
 
 -- what the gates of workers began with
 abbrev pub began_of : List WorkerParts → List (Option (List ℕ))
@@ -36,25 +31,6 @@ pub record IsNewWorker (fares : FareEditions) (lane_count : ℕ) (w : WorkerPart
   pub few : w.requests.mailbox.capacity ≡ MOST_REQUESTS
   pub back : w.requests.back ≡ []
   pub lanes : length w.lanes ≡ lane_count
-  pub held : w.held ≡ None
-  pub not_shut : w.shut ≡ false
-
--- a worker over another shard
-abbrev pub over : WorkerParts → ShardParts → WorkerParts
-over w s = record { shard = s; requests = w.requests; lanes = w.lanes; held = w.held; shut = w.shut; began = w.began }
-
--- workers over the shards that stand beside them
-abbrev pub all_over : List WorkerParts → List ShardParts → List WorkerParts
-all_over [] shards = []
-all_over (w ∷ workers) [] = []
-all_over (w ∷ workers) (s ∷ shards) = over w s ∷ all_over workers shards
-
--- A worker and a shard of the same number were asked for nothing yet.
-pub record AreUnasked (w : WorkerParts) (s : ShardParts) : Type 0 where
-  pub number : s.number ≡ w.shard.number
-  pub journal : s.journal ≡ []
-  pub memory : s.memory ≡ record { forgotten = 0; room = 0 }
-  pub own_journal : w.shard.journal ≡ []
   pub held : w.held ≡ None
   pub not_shut : w.shut ≡ false
 

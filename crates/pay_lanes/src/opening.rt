@@ -2,9 +2,8 @@
 ghost use Rattle.std.specs.Prelude.{◌≡◌, ◌<◌, ◌≤◌, ◌↔◌, false, [], All, length, map as each, vec_items, Err, IfOk, OnOk};
 ghost use Rattle.std.specs.Arc.{arc_value};
 ghost use Rattle.std.specs.List.{range_with_len, AllZip};
-ghost use Rattle.pay_shard.specs.Words.{AreNewShards};
-ghost use Rattle.pay_lanes.specs.Ends.{lanes_of, numbers, AreTogether};
-ghost use Rattle.pay_lanes.specs.Openings.{AreUnasked, all_over, shards_of, IsOutOfCount, IsNewWorker, IsNewLane, IsNewReceiver, IsNewSender, AreNewSenders, IsReady, shard_numbers, began_of, requests_of, ways_of, having_made_more, senders_after, lanes_from};
+ghost use Rattle.pay_lanes.specs.Ends.{numbers, AreTogether};
+ghost use Rattle.pay_lanes.specs.Openings.{IsOutOfCount, IsNewWorker, IsNewLane, IsNewReceiver, IsNewSender, AreNewSenders, IsReady, shard_numbers, began_of, requests_of, ways_of, having_made_more, senders_after, lanes_from};
 ghost use Rattle.pay_shard.specs.declared.limits.TheConstants.{MOST_SHARDS};
 ghost use Rattle.pay_lanes.specs.declared.limits.TheConstants.{MOST_LANES, MOST_REQUESTS};
 ghost use Rattle.pay_lanes.specs.declared.opening.OpenLanesFault.TheVariants.{Count};
@@ -211,50 +210,4 @@ pub fn open<F: Fares, G: Gate>(
     let lanes = all_lanes(alloc, to_shards, answers)?;
     let workers = all_workers(alloc, &editions, requests, to_lanes, gates)?;
     Ok(Opened { workers, lanes })
-}
-
-/// These workers over the shards that stand beside them. An `Err` is out of memory.
-fn all_over<F: Fares, G: Gate>(
-    alloc: Global,
-    workers: Vec<Worker<F, G>>,
-    shards: Vec<Shard<F>>,
-) -> Result<Vec<Worker<F, G>>, AllocError>
-    requires { AllZip AreUnasked workers.items shards.items }
-    ensures { IfOk result (λ made. made.items ≡ all_over workers.items shards.items) }
-{
-    let mut made = Vec::new(alloc);
-    for (worker, shard) in workers.into_iter().zip(shards) {
-        made.push(worker.over(shard))?;
-    }
-    Ok(made)
-}
-
-/// Opens so many lanes to these shards, which were asked for nothing yet and price by this fare file, from 1 to 16 each. Each shard has a
-/// gate, which has let nothing pass yet. Where it is refused, shards and gates are dropped.
-pub fn open_over<F: Fares, G: Gate>(
-    alloc: Global,
-    editions: Arc<Editions>,
-    shards: Vec<Shard<F>>,
-    lanes: u8,
-    gates: Vec<G>,
-) -> Result<Opened<F, G>, OpenLanesFault>
-    requires shards { AreNewShards (arc_value editions) shards.items }
-    requires gates { All (λ gate. G.Holds gate [] false) gates.items }
-    ensures count { (result ≡ Err Count) ↔ IsOutOfCount (length shards.items) lanes (length gates.items) }
-    ensures shards { IfOk result (λ opened. shards_of opened.workers.items ≡ shards.items) }
-    ensures began { IfOk result (λ opened. began_of opened.workers.items ≡ each G.began gates.items) }
-    ensures many { IfOk result (λ opened. lanes_of opened.workers.items ≡ lanes) }
-    ensures lanes { IfOk result (λ opened. numbers opened.lanes.items ≡ range_with_len 0 lanes) }
-    ensures new_lanes { IfOk result (λ opened. All (IsNewLane (length shards.items)) opened.lanes.items) }
-    ensures together { IfOk result (λ opened. AreTogether opened.workers.items opened.lanes.items) }
-{
-    let Ok(count) = u8::try_from(shards.len()) else {
-        return Err(OpenLanesFault::Count);
-    };
-    let opened = open(alloc, editions, count, lanes, gates)?;
-    let workers = all_over(alloc, opened.workers, shards)?;
-    Ok(Opened {
-        workers,
-        lanes: opened.lanes,
-    })
 }

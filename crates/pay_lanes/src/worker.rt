@@ -3,7 +3,7 @@ ghost use Rattle.std.specs.Prelude.{◌≡◌, ℕ, ◌<◌, ◌≤◌, false, I
 ghost use Rattle.pay_mailbox.specs.Words.{HasAll};
 ghost use Rattle.pay_shard.specs.Words.{ShardParts, with_memory};
 ghost use Rattle.pay_lanes.specs.Gates.{all_answered, IsGated};
-ghost use Rattle.pay_lanes.specs.Openings.{AreUnasked, IsNewSender, over};
+ghost use Rattle.pay_lanes.specs.Openings.{IsNewSender};
 ghost use Rattle.pay_lanes.specs.Parts.{sent_at, WasFullAt};
 ghost use Rattle.pay_lanes.specs.Turns.{by_lane, by_shard, HasDone, HasPoppedNone, IsHeldUp};
 ghost use Rattle.pay_lanes.specs.Working.{HasItem, IsOfferable, AreTold, mailboxes, IsSameWorker, IsKeptBy};
@@ -186,33 +186,6 @@ impl<F: Fares, G: Gate> Worker<F, G> {
             lanes,
             held: None,
             shut: false,
-            gate,
-            left,
-            gates,
-        }
-    }
-
-    /// The same worker over another shard of its number, where both were asked for nothing yet.
-    pub(crate) fn over(self, shard: Shard<F>) -> Worker<F, G>
-        requires { AreUnasked self shard }
-        ensures { result ≡ over self shard }
-    {
-        let Worker {
-            requests,
-            lanes,
-            held,
-            shut,
-            gate,
-            left,
-            gates,
-            ..
-        } = self;
-        Worker {
-            shard,
-            requests,
-            lanes,
-            held,
-            shut,
             gate,
             left,
             gates,

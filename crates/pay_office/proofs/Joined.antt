@@ -1,8 +1,7 @@
 -- An office that begins and ends.
 use Rattle.std.proofs.Common.{◌≡◌, ℕ, zero, suc, Bool, List, [], ◌∷◌, ◌++◌, All, map, length, IsPermutation, refl, sym, ap, ◌∙◌, subst, inl}
-use Rattle.std.specs.Prelude.{◌≢◌, ◌↔◌, Result, Ok, Err, IfOk, IfErr}
 use Rattle.std.specs.List.{range_with_len, AllZip}
-use Rattle.std.proofs.lemmas.List.Elements.{All-head}
+use Rattle.std.proofs.lemmas.List.Elements.{All-head, All-tail, All-cons, All-weaker}
 use Rattle.std.proofs.lemmas.List.Sorted.{All-permutation, IsPermutation-sym, IsPermutation-refl}
 use Rattle.pay_tables.specs.Words.{FareEditions}
 use Rattle.pay_shard.specs.declared.item.Entry.{Entry}
@@ -13,9 +12,7 @@ use Rattle.pay_lanes.specs.Ends.{lanes_of, numbers, AreAll, AreTogether, IsLaneO
 use Rattle.pay_lanes.specs.Openings.{IsOutOfCount, IsNewWorker, shard_numbers, began_of}
 use Rattle.pay_lanes.specs.Passing.{Passed}
 use Rattle.pay_lanes.specs.Gates.{IsFirstOf, HavePassed}
-use Rattle.pay_office.specs.Offices.{HasEnded, HaveLetPass}
-use Rattle.pay_office.specs.declared.office.StartFault.{StartFault}
-use Rattle.pay_office.specs.declared.office.StartFault.TheVariants.{Count}
+use Rattle.pay_office.specs.Offices.{IsFromNone, HasEnded, HaveLetPass}
 
 -- ---- workers are joined
 
@@ -43,7 +40,16 @@ lanes_begun fares zero lanes gates ws some order new = absurd (some (inl refl))
 lanes_begun fares (suc shards) lanes gates [] some order new = cc
 lanes_begun fares (suc shards) lanes gates (w ∷ ws) some order new = (All-head (IsNewWorker fares lanes) w ws new).lanes
 
+pub from_none : (fares : FareEditions) (lanes : ℕ) (ws ms : List WorkerParts) → ms ≡ ws → All (IsNewWorker fares lanes) ws → All IsFromNone ms
+from_none fares lanes ws ms begun new = subst (All IsFromNone) (sym begun) (All-weaker (IsNewWorker fares lanes) IsFromNone (λ w is. is.base) ws new)
+
 -- ---- an office ends
+
+none_still : (ws vs : List WorkerParts) → AllZip IsSameWorker ws vs → All IsFromNone ws → All IsFromNone vs
+none_still [] [] same none = none
+none_still [] (v ∷ vs) same none = absurd same
+none_still (w ∷ ws) [] same none = absurd same
+none_still (w ∷ ws) (v ∷ vs) same none = All-cons IsFromNone v vs (same.0.base ∙ All-head IsFromNone w ws none) (none_still ws vs same.1 (All-tail IsFromNone w ws none))
 
 pub same_began : (ws vs : List WorkerParts) → AllZip IsSameWorker ws vs → began_of vs ≡ began_of ws
 same_began [] [] same = refl
@@ -72,10 +78,11 @@ module _ (office ws vs : List WorkerParts) (ls sorted : List LaneParts) (begun :
 
   pub has_ended : (journals : List (List Item)) (left : List (List Entry)) → journals ≡ map (λ (w : WorkerParts). w.shard.journal) vs → length left ≡ length vs
       → All (λ (l : LaneParts). arrived l.number vs left ≡ sent_by l) sorted → AreKnown vs left → All (λ (l : LaneParts). All (IsAnswered l) vs) sorted
-      → AreJournalsFrom (length vs) 0 (map (λ (w : WorkerParts). w.shard.journal) vs) → All IsRight vs → HasEnded office ls journals left
-  has_ended journals left are many sent known answered asked right = record {
+      → AreJournalsFrom (length vs) 0 (map (λ (w : WorkerParts). w.shard.journal) vs) → All IsRight vs → All IsFromNone ws → HasEnded office ls journals left
+  has_ended journals left are many sent known answered asked right none = record {
     workers = vs;
     same = same_office;
+    from_none = none_still ws vs same none;
     ends = record {
       journals_are = are;
       many = many;
@@ -104,12 +111,3 @@ module _ (office ws vs : List WorkerParts) (ls sorted : List LaneParts) (begun :
 
     pub have_let_pass : (journals : List (List Item)) (gates : List G) → journals ≡ map (λ (w : WorkerParts). w.shard.journal) vs → HavePassed Holds sorted vs gates → HaveLetPass Holds office ls journals gates
     have_let_pass journals gates are passed = record { workers = vs; same = same_office; journals_are = are; passed = any_order vs gates passed }
-
--- ---- what is told of what was opened
-
-pub with_both : {T E : Type 0} (r : Result T E) (P Q R : T → Type 0) → ((x : T) → P x → Q x → R x) → IfOk r P → IfOk r Q → IfOk r R
-with_both (Ok x) P Q R f p q = f x p q
-with_both (Err e) P Q R f p q = tt
-
-pub never_count : {T : Type 0} (r : Result T StartFault) (Out : Type 0) → IfErr r (λ fault. fault ≢ Count) → (Out → ⊥) → (r ≡ Err Count) ↔ Out
-never_count r Out other within = ((λ is. absurd (subst (λ s. IfErr s (λ fault. fault ≢ Count)) is other refl)), λ out. absurd (within out))

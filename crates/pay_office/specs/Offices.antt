@@ -1,5 +1,6 @@
 -- An office: its workers as they were when their threads began, and what stands when they have ended.
 use Rattle.std.specs.Prelude.{◌≡◌, Bool, List, All, length, map}
+use Rattle.std.specs.FinMap.{empty}
 use Rattle.std.specs.List.{AllZip}
 use Rattle.pay_shard.specs.declared.item.Entry.{Entry}
 use Rattle.pay_shard.specs.declared.item.Item.{Item}
@@ -21,6 +22,10 @@ abbrev pub begun_fault : BeginFault → StartFault
 begun_fault beginning.NoThread = NoThread
 begun_fault beginning.Memory = Memory
 
+-- a worker of a shard that began without accounts
+abbrev pub IsFromNone : WorkerParts → Type 0
+IsFromNone w = w.shard.base ≡ empty
+
 -- With the workers as they are at the end: these journals are theirs, and these entries were left.
 pub record IsEndOf (workers : List WorkerParts) (lanes : List LaneParts) (journals : List (List Item)) (left : List (List Entry)) : Type 0 where
   pub journals_are : journals ≡ map (λ (w : WorkerParts). w.shard.journal) workers
@@ -35,10 +40,11 @@ pub record IsEndOf (workers : List WorkerParts) (lanes : List LaneParts) (journa
   pub asked : AreJournalsFrom (length workers) 0 journals
   pub right : All IsRight workers
 
--- An office of these workers has ended with these lanes: each worker is the same end still, over a shard that began as it did.
+-- An office of these workers has ended with these lanes: each worker is the same end still, over a shard that began as it did, without accounts.
 pub record HasEnded (office : List WorkerParts) (lanes : List LaneParts) (journals : List (List Item)) (left : List (List Entry)) : Type 0 where
   pub workers : List WorkerParts
   pub same : AllZip IsSameWorker office workers
+  pub from_none : All IsFromNone workers
   pub ends : IsEndOf workers lanes journals left
 
 -- An office of these workers has ended with these lanes and these gates: each holds what it let pass of what its journal's run answers, and what each

@@ -10,6 +10,6 @@ mod waiting;
 mod work;
 
 pub use desk::LaneDesk;
-pub use office::{Office, ShutFault, StartFault, shut, start, start_over};
+pub use office::{Office, ShutFault, StartFault, shut, start};
 pub use pay_lanes::{Ended, Gate, Lane, OpenGate};
 pub use work::SameWorker;

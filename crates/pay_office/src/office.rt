@@ -2,18 +2,14 @@
 ghost use Rattle.std.specs.Prelude.{◌≡◌, ◌↔◌, ◌≢◌, false, All, length, map as each, vec_items, Err, IfOk, IfErr, OnOk, IsPermutation, ◌≤◌, [], vec_capacity};
 ghost use Rattle.std.specs.Arc.{arc_value};
 ghost use Rattle.std.specs.List.{range_with_len, AllZip};
-ghost use Rattle.pay_shard.specs.Words.{AreNewShards};
-ghost use Rattle.pay_lanes.specs.Words.{IsOutOfCount, IsNewWorker, IsNewLane, AreTogether, AreAll, IsSameWorker, lanes_of, numbers, shard_numbers, shards_of, began_of};
+ghost use Rattle.pay_lanes.specs.Words.{IsOutOfCount, IsNewWorker, IsNewLane, AreTogether, AreAll, IsSameWorker, numbers, shard_numbers, began_of};
 ghost use Rattle.pay_office.specs.Offices.{HasEnded, HaveLetPass};
 ghost use Rattle.pay_office.specs.declared.office.StartFault.TheVariants.{Count};
 ghost use Rattle.pay_office.specs.declared.office.ShutFault.TheVariants.{LaneMissing};
 
 use crate::work::{BeginFault, Stop, Working, begin};
-use pay_lanes::{
-    Ended, Gate, Lane, OpenLanesFault, Opened, Worker, end, laws, open, open_over, put_in_order,
-};
+use pay_lanes::{Ended, Gate, Lane, OpenLanesFault, Opened, Worker, end, laws, open, put_in_order};
 use pay_rules::Fares;
-use pay_shard::Shard;
 use pay_tables::Editions;
 use std::alloc::{AllocError, Global};
 use std::marker::Model;
@@ -95,6 +91,7 @@ impl<F: Fares, G: Gate> Model for Office<F, G> {
     ghost use Rattle.std.specs.Prelude.{◌≡◌, ◌≤◌, List, [], All, length, map as each, vec_capacity};
     ghost use Rattle.std.specs.Coded.{coded_list};
     ghost use Rattle.pay_lanes.specs.Words.{WorkerParts, worker_code, lanes_of};
+    ghost use Rattle.pay_office.specs.Offices.{IsFromNone};
 
     ghost Value = { List WorkerParts };
 
@@ -103,7 +100,8 @@ impl<F: Fares, G: Gate> Model for Office<F, G> {
     ghost view = { λ o. each (λ w. w.promise.0.value) o.workers.items };
 
     ghost invariant = { λ o. (o.lanes ≡ lanes_of (each (λ w. w.promise.0.value) o.workers.items))
-        × (o.room.items ≡ []) × (length o.workers.items ≤ vec_capacity o.room) };
+        × (o.room.items ≡ []) × (length o.workers.items ≤ vec_capacity o.room)
+        × All IsFromNone (each (λ w. w.promise.0.value) o.workers.items) };
 }
 
 /// Tells the workers to stop, and waits until their threads have ended. What they were is lost.
@@ -141,34 +139,6 @@ where
     Ok(working)
 }
 
-/// Begins a thread for each worker that was opened, of so many lanes. Where it is refused, no thread is left, and the gates are dropped.
-fn begin_opened<F, G, R>(
-    rt: R,
-    alloc: Global,
-    opened: Opened<F, G>,
-    lanes: u8,
-) -> Result<(Office<F, G>, Vec<Lane>), StartFault>
-where
-    F: Fares + Send + 'static,
-    G: Gate + Send + 'static,
-    R: Threads + Wait + Copy + Send + 'static,
-    requires many { lanes_of opened.workers.items ≡ lanes }
-    ensures workers { IfOk result (λ begun. begun.0 ≡ opened.workers.items) }
-    ensures lanes { IfOk result (λ begun. begun.1.items ≡ opened.lanes.items) }
-    ensures fault { IfErr result (λ fault. fault ≢ Count) }
-{
-    let stop = Stop::new(alloc)?;
-    let room = Vec::with_capacity(alloc, opened.workers.len())?;
-    let workers = begin_all(rt, alloc, &stop, opened.workers)?;
-    let office = Office {
-        workers,
-        lanes: lanes as usize,
-        stop,
-        room,
-    };
-    Ok((office, opened.lanes))
-}
-
 /// Begins so many shards, which have no accounts and price by this fare file, each in a thread of its own, and opens so many lanes
 /// to them, from 1 to 16 each. Each shard has a gate, which has let nothing pass yet. Where it is refused, no thread is left, and the
 /// gates are dropped.
@@ -193,34 +163,20 @@ where
     ensures new_lanes { IfOk result (λ begun. All (IsNewLane shards) begun.1.items) }
     ensures together { IfOk result (λ begun. AreTogether begun.0 begun.1.items) }
 {
-    let opened = open(alloc, editions, shards, lanes, gates)?;
-    begin_opened(rt, alloc, opened, lanes)
-}
-
-/// The same over shards that were asked for nothing yet, and may have accounts. Where it is refused, they are dropped as well.
-pub fn start_over<F, G, R>(
-    rt: R,
-    alloc: Global,
-    editions: Arc<Editions>,
-    shards: Vec<Shard<F>>,
-    lanes: u8,
-    gates: Vec<G>,
-) -> Result<(Office<F, G>, Vec<Lane>), StartFault>
-where
-    F: Fares + Send + 'static,
-    G: Gate + Send + 'static,
-    R: Threads + Wait + Copy + Send + 'static,
-    requires shards { AreNewShards (arc_value editions) shards.items }
-    requires gates { All (λ gate. G.Holds gate [] false) gates.items }
-    ensures count { (result ≡ Err Count) ↔ IsOutOfCount (length shards.items) lanes (length gates.items) }
-    ensures shards { IfOk result (λ begun. shards_of begun.0 ≡ shards.items) }
-    ensures began { IfOk result (λ begun. began_of begun.0 ≡ each G.began gates.items) }
-    ensures lanes { IfOk result (λ begun. numbers begun.1.items ≡ range_with_len 0 lanes) }
-    ensures new_lanes { IfOk result (λ begun. All (IsNewLane (length shards.items)) begun.1.items) }
-    ensures together { IfOk result (λ begun. AreTogether begun.0 begun.1.items) }
-{
-    let opened = open_over(alloc, editions, shards, lanes, gates)?;
-    begin_opened(rt, alloc, opened, lanes)
+    let Opened {
+        workers,
+        lanes: opened,
+    } = open(alloc, editions, shards, lanes, gates)?;
+    let stop = Stop::new(alloc)?;
+    let room = Vec::with_capacity(alloc, workers.len())?;
+    let workers = begin_all(rt, alloc, &stop, workers)?;
+    let office = Office {
+        workers,
+        lanes: lanes as usize,
+        stop,
+        room,
+    };
+    Ok((office, opened))
 }
 
 /// Waits until the threads of workers have ended, and puts what they were into a list that has room for them.

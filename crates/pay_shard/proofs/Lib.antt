@@ -11,7 +11,6 @@ pub mod Journals
 pub mod LocalDesks
 pub mod Merging
 pub mod NewAlone
-pub mod Parted
 pub mod Pasts
 pub mod Places
 pub mod PutThenGet

@@ -10,7 +10,6 @@ pub mod Laws
 pub mod JournalParts
 pub mod ShardParts
 pub mod Merges
-pub mod Splits
 pub mod NewItems
 pub mod Changes
 pub mod Desks

@@ -14,7 +14,6 @@ ghost use Rattle.pay_shard.specs.State.{after_tap_of, after_fix_of};
 ghost use Rattle.pay_rules.specs.State.{accepted_of, ArePriced};
 ghost use Rattle.pay_shard.specs.BatchParts.{batch, batch_if_quoted, batch_with};
 ghost use Rattle.pay_shard.specs.Held.{ArePlaces, AreNumbersOf, state_of};
-ghost use Rattle.pay_shard.specs.Splits.{with_first};
 
 use crate::batch::Batch;
 use crate::selection::is_quoted;
@@ -171,37 +170,6 @@ impl<F: Fares> Accounts<F> {
                 Err(AllocError)
             }
         }
-    }
-
-    /// Keeps an account at its number, unless one is there.
-    pub fn put(&mut self, account: F) -> Result<(), AllocError>
-        requires numbered { 1 ≤ F.account account }
-        requires priced_by { F.IsPricedBy self.old.editions account }
-        ensures { OnOk result (self.new ≡ record { editions = self.old.editions; state = with_first self.old.state (F.account account) (F.accepted account) }) }
-    {
-        if self.get(account.number()).is_some() {
-            return Ok(());
-        }
-        self.keep(account)
-    }
-
-    /// Accounts of nobody by the same fare file.
-    pub fn none_beside(&self) -> Result<Accounts<F>, AllocError>
-        ensures { IfOk result (λ made. made ≡ record { editions = self.now.editions; state = map.empty }) }
-    {
-        let editions = Arc::try_clone(&self.editions)?;
-        match Accounts::new(self.alloc, editions, Vec::new(self.alloc)) {
-            Ok(made) => Ok(made),
-            Err(_) => Err(AllocError),
-        }
-    }
-
-    /// The accounts one after another.
-    pub fn into_accounts(self) -> Vec<F>
-        ensures priced { ArePriced F.account (F.IsPricedBy self.editions) result.items }
-        ensures same { state_of F.account F.accepted result.items ≡ self.state }
-    {
-        self.accounts
     }
 
     /// Hands a tap to its account, which is opened by the first that it accepts: a refused tap leaves none.

@@ -21,7 +21,6 @@ mod refusal;
 mod reply;
 mod selection;
 mod shard;
-mod splitting;
 mod ticket;
 
 pub use asked::Asked;

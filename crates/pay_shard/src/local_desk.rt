@@ -120,13 +120,6 @@ impl<F: Fares> LocalDesk<F> {
         &self.shard
     }
 
-    /// Its shard, without the answers that were not got.
-    pub fn into_shard(self) -> Shard<F>
-        ensures { result ≡ self.shard }
-    {
-        self.shard
-    }
-
     /// The answer to a command whose reply was not got, by its ticket.
     #[tactic(auto, using(crate::proofs::LocalDesks::some_found))]
     pub fn waiting(&self, ticket: Ticket) -> Option<&Answer>

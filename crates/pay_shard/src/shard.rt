@@ -9,14 +9,12 @@ ghost use Rattle.pay_shard.specs.declared.limits.TheConstants.{BLOCK_ITEMS};
 ghost use Rattle.pay_shard.specs.Held.{state_of};
 ghost use Rattle.pay_shard.specs.Machine.{is_memory};
 ghost use Rattle.pay_shard.specs.Runs.{IsHistory, IsMarkedRightly};
-ghost use Rattle.pay_shard.specs.Splits.{AreNewShards, BeginWith, bases_of, new_shard, shards_from};
 ghost use Rattle.pay_shard.specs.ShardParts.{state_now, answers_given, next_answer, item_of, with_item, with_memory};
 
 use crate::accounts::Accounts;
 use crate::item::{Entry, Item};
 use crate::journal::Journal;
 use crate::reply::{Answer, Reply};
-use crate::splitting::split;
 use pay_rules::Fares;
 use pay_tables::Editions;
 use std::alloc::{AllocError, AllocFailed, Global};
@@ -63,36 +61,7 @@ fn is_memory(reply: &Reply) -> bool
     matches!(reply, Reply::Memory)
 }
 
-/// New shards over these accounts, of the numbers from 0 on. An `Err` is out of memory.
-fn shards_over<F: Fares>(
-    alloc: Global,
-    parts: Vec<Accounts<F>>,
-) -> Result<Vec<Shard<F>>, AllocError>
-    requires { length parts.items ≤ 255 }
-    ensures { IfOk result (λ shards. shards.items ≡ shards_from 0 parts.items) }
-{
-    let mut shards = Vec::new(alloc);
-    let mut number = 0;
-    for accounts in parts {
-        shards.push(Shard::over(alloc, number, accounts))?;
-        number += 1;
-    }
-    Ok(shards)
-}
-
 impl<F: Fares> Shard<F> {
-    /// A new shard of this number over these accounts.
-    fn over(alloc: Global, number: u8, accounts: Accounts<F>) -> Shard<F>
-        ensures { result ≡ new_shard number accounts }
-    {
-        Shard {
-            number,
-            base: Snapshot::of(&accounts),
-            accounts,
-            journal: Journal::new(alloc),
-        }
-    }
-
     /// A shard of this number with an empty journal, which begins with accounts of distinct numbers from 1, each priced by
     /// this fare file. `Memory` gives the accounts back; a shard of none takes no memory.
     pub fn new(
@@ -112,7 +81,12 @@ impl<F: Fares> Shard<F> {
         ensures of_none { base.items ≡ [] → IsOk result }
     {
         let accounts = Accounts::new(alloc, editions, base)?;
-        Ok(Shard::over(alloc, number, accounts))
+        Ok(Shard {
+            number,
+            base: Snapshot::of(&accounts),
+            accounts,
+            journal: Journal::new(alloc),
+        })
     }
 
     /// Its number.
@@ -179,17 +153,6 @@ impl<F: Fares> Shard<F> {
         ensures history { IsHistory self.editions self.base result.items }
     {
         self.journal
-    }
-
-    /// Its accounts over so many shards, of the numbers from 0 on: each account is in the one that its number leaves as the remainder. They
-    /// begin with what the accounts have accepted by now, and have empty journals. An `Err` is out of memory.
-    pub fn split(self, alloc: Global, of: u8) -> Result<Vec<Shard<F>>, AllocError>
-        ensures count { IfOk result (λ shards. length shards.items ≡ of) }
-        ensures new { IfOk result (λ shards. AreNewShards self.editions shards.items) }
-        ensures whole { IfOk result (λ shards. 0 < of → BeginWith of (bases_of shards.items) (state_now self)) }
-    {
-        let parts = split(alloc, self.accounts, of)?;
-        shards_over(alloc, parts)
     }
 
     /// An account by its number. `None` is given only where it has accepted nothing.

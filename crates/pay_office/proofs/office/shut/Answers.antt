@@ -15,7 +15,7 @@ unreachable-requires g c =
 pub returns-clause-ended : goal.returns-clause-ended
 returns-clause-ended g c =
     has_ended c.args.office _ c.join_all.new.workers.items c.args.lanes.items c.put_in_order.new.lanes.items c.office.view_is c.requires c.join_all.ensures c.put_in_order.ensures.moved
-    _ _ c.in-Ok.ensures.journals (as_many vec_items c.in-Ok.ended.left.items ∙ c.in-Ok.ensures.many) c.in-Ok.ensures.sent c.in-Ok.ensures.known c.in-Ok.ensures.answered c.in-Ok.ensures.asked c.in-Ok.ensures.right
+    _ _ c.in-Ok.ensures.journals (as_many vec_items c.in-Ok.ended.left.items ∙ c.in-Ok.ensures.many) c.in-Ok.ensures.sent c.in-Ok.ensures.known c.in-Ok.ensures.answered c.in-Ok.ensures.asked c.in-Ok.ensures.right c.office.invariant.3
 
 pub returns-clause-gates : goal.returns-clause-gates
 returns-clause-gates g c =
