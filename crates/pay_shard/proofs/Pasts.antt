@@ -1,5 +1,5 @@
 -- What was forgotten, once more is.
-use Rattle.std.proofs.Common.{◌≡◌, ◌++◌, List, length, sym, ap, ◌∙◌}
+use Rattle.std.proofs.Common.{◌≡◌, ◌++◌, List, sym, ap, ◌∙◌}
 use Rattle.pay_shard.specs.JournalParts.{past_step, all_in, all_past}
 use Rattle.pay_shard.specs.declared.item.Item.{Item}
 use Rattle.pay_shard.specs.declared.past.Past.TheVariants.{Then, rolls-Then}

@@ -160,16 +160,11 @@ impl<F: Fares> Accounts<F> {
         ensures kept { OnOk result (self.new ≡ record { editions = self.old.editions; state = map.insert self.old.state (F.account account) (F.accepted account) }) }
         ensures err { OnErr result (self.new ≡ self.old) }
     {
-        let number = account.number();
-        let place = self.accounts.len();
-        self.accounts.push(account)?;
-        match self.places.insert(number, place) {
-            Ok(_) => Ok(()),
-            Err(_) => {
-                self.accounts.pop();
-                Err(AllocError)
-            }
-        }
+        // With room, an account is moved once.
+        self.accounts.reserve(1)?;
+        self.places.insert(account.number(), self.accounts.len())?;
+        self.accounts.push_reserved(account);
+        Ok(())
     }
 
     /// Hands a tap to its account, which is opened by the first that it accepts: a refused tap leaves none.

@@ -40,10 +40,7 @@ impl JournalBlock {
         requires { length self.old < BLOCK_ITEMS }
         ensures { self.new ≡ self.old ++ item ∷ [] }
     {
-        match self.items.push(item) {
-            Ok(()) => {}
-            Err(_) => unreachable!(),
-        }
+        self.items.push_reserved(item);
     }
 
     /// The item at a place.

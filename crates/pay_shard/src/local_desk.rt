@@ -1,9 +1,8 @@
-ghost use Rattle.std.specs.Prelude.{◌≡◌, ◌<◌, ◌==◌, ℕ, map as each, length, List, [], ◌∷◌, ◌++◌, Some, IsOk, IfOk, IfErr, OnErr, IsSome, IfSome};
+ghost use Rattle.std.specs.Prelude.{◌≡◌, ◌==◌, ℕ, map as each, length, List, [], ◌∷◌, ◌++◌, Some, IsOk, IfOk, IfErr, OnErr, IsSome, IfSome};
 ghost use Rattle.std.specs.Arc.{arc_value};
 ghost use Rattle.std.specs.List.{IsDistinct, find, position};
 ghost use Rattle.std.specs.Option.{option_map};
 ghost use Rattle.std.specs.Ordering.{nat_cmp, eq_by_cmp};
-ghost use Rattle.std.specs.Vec.{vec_capacity, vec_len};
 ghost use Rattle.pay_rules.specs.InTurn.{IsIn};
 ghost use Rattle.pay_rules.specs.State.{ArePriced};
 ghost use Rattle.pay_shard.specs.Held.{state_of};
@@ -44,17 +43,6 @@ impl<F: Fares> Model for LocalDesk<F> {
     ghost view = { λ d. record { shard = d.shard; waiting = tickets_of d.kept.items } };
 
     ghost invariant = { λ d. IsLocal d.shard d.kept.items };
-}
-
-/// Adds an answer to a list that has room for it.
-fn keep(kept: &mut Vec<Answer>, answer: Answer)
-    requires { vec_len kept.old < vec_capacity kept.old }
-    ensures { kept.new.items ≡ kept.old.items ++ answer ∷ [] }
-{
-    match kept.push(answer) {
-        Ok(()) => {}
-        Err(_) => unreachable!(),
-    }
 }
 
 /// Where the first answer to a ticket stands.
@@ -166,7 +154,7 @@ impl<F: Fares> Desk for LocalDesk<F> {
             ticket,
             command,
         };
-        keep(&mut self.kept, self.shard.apply(entry));
+        self.kept.push_reserved(self.shard.apply(entry));
         Ok(Ticket::of(ticket))
     }
 

@@ -1,4 +1,4 @@
-use Rattle.std.proofs.Common.{◌≡◌, ◌++◌, ◌-◌, ◌*◌, length, ap, ◌∙◌, sym, subst, arith}
+use Rattle.std.proofs.Common.{◌++◌, ◌-◌, ◌*◌, length, ap, ◌∙◌, sym, subst, arith}
 use Rattle.pay_shard.specs.JournalParts.{JournalParts, AreBlocks, all_in, all_past}
 use Rattle.pay_shard.proofs.Blocks.{many_past, none_left, no_more, all_past_still}
 use Rattle.pay_shard.proofs.Pasts.{past_then}

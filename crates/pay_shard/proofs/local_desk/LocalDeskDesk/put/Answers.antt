@@ -11,7 +11,7 @@ pub invariant_of-self-2 : goal.invariant_of-self-2
 invariant_of-self-2 g c =
     local_after_put c.self.inside.shard c.reserve-2.new.self c.apply.new.self (record { lane = 0; ticket = c.len-ticket.result; command = c.args.command }) (is_memory c.apply.result.reply)
     c.reserve-2.new.self.memory c.apply.new.self.memory c.in_ok-reserve-2.ensures.same c.apply.ensures.journal
-    c.self.inside.kept.items c.reserve.new.self.items c.keep.new.kept.items c.apply.result (c.apply.ensures.forgotten ∙ c.in_ok-reserve-2.ensures.forgotten) c.self.invariant refl (c.len-ticket.ensures ∙ ap length c.journal.ensures.value) c.apply.ensures.answer c.reserve.ensures.items c.keep.ensures
+    c.self.inside.kept.items c.reserve.new.self.items c.push_reserved.new.self.items c.apply.result (c.apply.ensures.forgotten ∙ c.in_ok-reserve-2.ensures.forgotten) c.self.invariant refl (c.len-ticket.ensures ∙ ap length c.journal.ensures.value) c.apply.ensures.answer c.reserve.ensures.items c.push_reserved.ensures.items
 
 pub returns-clause-later : goal.returns-clause-later
 returns-clause-later g c =
