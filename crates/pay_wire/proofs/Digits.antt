@@ -1,6 +1,6 @@
 -- What is read of digits from the left.
-use Rattle.std.proofs.Common.{◌≡◌, ℕ, zero, suc, ◌+◌, ◌-◌, ◌*◌, ◌<◌, ◌≤◌, Bool, true, false, leb, ◌&&◌, List, [], ◌∷◌, length, get_or, take, Some, None, refl, arith}
-use Rattle.std.specs.Char.{is_ascii_digit}
+use Rattle.std.proofs.Common.{◌≡◌, ℕ, zero, suc, ◌+◌, ◌*◌, ◌<◌, ◌≤◌, Bool, true, false, leb, ◌&&◌, List, [], ◌∷◌, length, get_or, take, Some, None, refl, arith}
+use Rattle.std.specs.Char.{is_ascii_digit, digit_value}
 use Rattle.std.specs.Str.{all_ascii_digits}
 use Rattle.std.specs.Str.Parse.{AllDigits, digits_value}
 use Rattle.std.proofs.lemmas.Str.Parse.{IsNumeralModel, numerals_by_value, tells_digits, tells_all_ascii_digits, digits_value_short, digits_value-take-le}
@@ -40,10 +40,17 @@ whole word digits small =
     let yes : leb (digits_value 10 word) 4_294_967_295 ≡ true = le-leb _ _ small in
     rw (all, yes) refl
 
+-- what a byte that is a digit stands for
+digit_is : (byte digit : ℕ) → digit ≤ 9 → digit + 48 ≡ byte → digit_value byte ≡ digit
+digit_is byte digit small e = omega (arith, small, e, digit_value_digit byte (omega (arith, small, e), omega (arith, small, e)))
+
+pub is_digit : (byte digit : ℕ) → digit ≤ 9 → digit + 48 ≡ byte → digit_value byte < 10
+is_digit byte digit small e = omega (arith, small, digit_is byte digit small e)
+
 -- one digit more
-pub one_digit : (word : List ℕ) (i value : ℕ) → i < length word → (48 ≤ get_or word i 0) × (get_or word i 0 ≤ 57) → value ≡ digits_value 10 (take i word) → value * 10 + (get_or word i 0 - 48) ≡ digits_value 10 (take (i + 1) word)
-one_digit word i value lt digit e =
-    omega (arith, e, digits_value_more 10 word i lt, digit_value_digit (get_or word i 0) digit, digit)
+pub one_digit : (word : List ℕ) (i value digit : ℕ) → i < length word → digit ≤ 9 → digit + 48 ≡ get_or word i 0 → value ≡ digits_value 10 (take i word) → value * 10 + digit ≡ digits_value 10 (take (i + 1) word)
+one_digit word i value digit lt small same e =
+    omega (arith, e, digits_value_more 10 word i lt, digit_is (get_or word i 0) digit small same)
 
 -- ten digits are less than 10^10
 pub ten_digits : (word : List ℕ) (i : ℕ) → i ≤ length word → i ≤ 10 → AllDigits 10 (take i word) → digits_value 10 (take i word) < 10_000_000_000

@@ -1,5 +1,5 @@
 //! Commands as lines.
-ghost use Rattle.std.specs.Prelude.{◌≡◌, ◌≤◌, ◌<◌, ◌^◌, ◌∷◌, [], Some, IfSome, IfNone, option_map};
+ghost use Rattle.std.specs.Prelude.{◌≡◌, ◌≤◌, ◌<◌, ◌^◌, ◌∷◌, Some, IfSome, option_map};
 ghost use Rattle.std.specs.List.{position_or_len};
 ghost use Rattle.pay_wire.specs.Fields.{is_space, words, words_after, has_none, field};
 ghost use Rattle.pay_wire.specs.Commands.{number_within, kind_of_word, tap_of, named_of, fill_of, credit_of, form_of_word, what_for, what_of, fix_of, account_day_of, day_of, keyword_of, command_for, command_of};
@@ -293,7 +293,10 @@ fn number_field(fields: &[u8], low: u32, high: u32) -> Option<(u32, &[u8])>
         ≡ field (number_within low high) (words_after fields.now) }
     ensures in_range { IfSome result (λ x. (low ≤ x.0) × (x.0 ≤ high)) }
 {
-    let (number, rest) = read_number(after_space(fields)?)?;
+    if fields.is_empty() {
+        return None;
+    }
+    let (number, rest) = read_number(&fields[1..])?;
     if number < low || number > high {
         return None;
     }
@@ -344,18 +347,10 @@ fn read_form(word: &[u8]) -> Option<Form>
 fn next_word(fields: &[u8]) -> Option<(&[u8], &[u8])>
     ensures { option_map (λ x. (x.0.now, words_after x.1.now)) result ≡ field Some (words_after fields.now) }
 {
-    Some(split_word(after_space(fields)?))
-}
-
-/// The words after the space that stands first.
-fn after_space(fields: &[u8]) -> Option<&[u8]>
-    ensures some { IfSome result (λ line. words_after fields.now ≡ words line.now) }
-    ensures none { IfNone result (words_after fields.now ≡ []) }
-{
-    match fields {
-        [] => None,
-        [_, line @ ..] => Some(line),
+    if fields.is_empty() {
+        return None;
     }
+    Some(split_word(&fields[1..]))
 }
 
 /// No word follows.

@@ -1,5 +1,5 @@
 //! Numbers as they stand in a line.
-ghost use Rattle.std.specs.Prelude.{◌≡◌, ◌≤◌, ◌<◌, false, length, get_or, take, option_map};
+ghost use Rattle.std.specs.Prelude.{◌≡◌, ◌+◌, ◌≤◌, ◌<◌, false, length, get_or, take, option_map};
 ghost use Rattle.std.specs.Char.{is_ascii_digit};
 ghost use Rattle.std.specs.Str.Parse.{AllDigits, digits_value};
 ghost use Rattle.pay_wire.specs.Fields.{words, words_after, ends_word, field};
@@ -53,10 +53,19 @@ fn leading_digits(line: &[u8]) -> (u64, usize)
     let mut value: u64 = 0;
     let most = line.len().min(MOST_DIGITS);
     for i in 0..most {
-        if !line[i].is_ascii_digit() {
+        let digit = digit_of(line[i]);
+        if digit > 9 {
             return (value, i);
         }
-        value = value * 10 + u64::from(line[i] - b'0');
+        value = value * 10 + digit;
     }
     (value, most)
+}
+
+/// What a byte stands for as a digit, and more than 9 where it is none.
+fn digit_of(byte: u8) -> u64
+    ensures value { result ≤ 9 → result + 48 ≡ byte }
+    ensures none { 9 < result → is_ascii_digit byte ≡ false }
+{
+    u64::from(byte).wrapping_sub(u64::from(b'0'))
 }

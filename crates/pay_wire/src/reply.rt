@@ -77,117 +77,117 @@ impl SpelledReply {
     }
 }
 
-/// The line that each reply has, newline included.
-pub fn main_line(reply: &SpelledReply) -> SpelledLine
-    ensures { result.items ≡ line_of_words (words_of_reply reply.now) }
+/// Renders the line that each reply has into an empty one, newline included.
+pub(crate) fn render_main_line(line: &mut SpelledLine, reply: &SpelledReply)
+    requires { line.old.items ≡ [] }
+    ensures { line.new.items ≡ line_of_words (words_of_reply reply.now) }
 {
     match reply {
-        SpelledReply::Priced(priced) => render_priced(priced),
-        SpelledReply::Shown(shown) => render_shown(shown),
-        SpelledReply::Due(quote) => render_due(quote),
-        SpelledReply::Closed(closed) => done_line(closed),
-        SpelledReply::No(refusal) => render_refusal(*refusal),
-        SpelledReply::Bye => started(b"BYE\n"),
+        SpelledReply::Priced(priced) => render_priced(line, priced),
+        SpelledReply::Shown(shown) => render_shown(line, shown),
+        SpelledReply::Due(quote) => render_due(line, quote),
+        SpelledReply::Closed(closed) => render_closed(line, closed),
+        SpelledReply::No(refusal) => render_refusal(line, *refusal),
+        SpelledReply::Bye => begin(line, b"BYE\n"),
     }
 }
 
-/// The line of a posting, newline included.
+/// Renders the line of a posting into an empty one, newline included.
 #[tactic(auto, using(crate::proofs::Fields::posting_fields))]
-pub fn posting_line(posting: &Posting) -> SpelledLine
-    ensures { result.items ≡ line_of_words (words_of_posting posting.now) }
+pub(crate) fn render_posting(line: &mut SpelledLine, posting: &Posting)
+    requires { line.old.items ≡ [] }
+    ensures { line.new.items ≡ line_of_words (words_of_posting posting.now) }
 {
-    let mut line = started(b"PAY");
-    put_quote(&mut line, &posting.quote);
-    put_field(&mut line, posting.amount);
-    put_shares(&mut line, &posting.share_amounts);
-    put(&mut line, b"\n");
-    line
+    begin(line, b"PAY");
+    put_quote(line, &posting.quote);
+    put_field(line, posting.amount);
+    put_shares(line, &posting.share_amounts);
+    put(line, b"\n");
 }
 
-/// The line of a journey, newline included.
-pub fn journey_line(journey: &Line) -> SpelledLine
-    ensures { result.items ≡ line_of_words (words_of_journey journey.now) }
+/// Renders the line of a journey into an empty one, newline included.
+pub(crate) fn render_journey(line: &mut SpelledLine, journey: &Line)
+    requires { line.old.items ≡ [] }
+    ensures { line.new.items ≡ line_of_words (words_of_journey journey.now) }
 {
-    let mut line = started(b"JNY ");
-    put(&mut line, journey.kind.word());
-    put_field(&mut line, journey.from);
-    put_field(&mut line, journey.to);
-    put_field(&mut line, journey.utc);
-    put_field(&mut line, journey.fare.pence());
-    put(&mut line, b"\n");
-    line
+    begin(line, b"JNY ");
+    put(line, journey.kind.word());
+    put_field(line, journey.from);
+    put_field(line, journey.to);
+    put_field(line, journey.utc);
+    put_field(line, journey.fare.pence());
+    put(line, b"\n");
 }
 
-fn render_shown(shown: &Shown) -> SpelledLine
-    ensures { result.items ≡ line_of_words (words_of_shown shown.now) }
+fn render_shown(line: &mut SpelledLine, shown: &Shown)
+    requires { line.old.items ≡ [] }
+    ensures { line.new.items ≡ line_of_words (words_of_shown shown.now) }
 {
-    let mut line = started(b"SHOW");
-    put_field(&mut line, shown.account);
-    put_field(&mut line, shown.day);
-    put_field(&mut line, shown.lines.as_slice().len());
-    put_field(&mut line, shown.day_price.pence());
-    put(&mut line, b"\n");
-    line
+    begin(line, b"SHOW");
+    put_field(line, shown.account);
+    put_field(line, shown.day);
+    put_field(line, shown.lines.as_slice().len());
+    put_field(line, shown.day_price.pence());
+    put(line, b"\n");
 }
 
-fn render_priced(priced: &Priced) -> SpelledLine
-    ensures { result.items ≡ line_of_words (words_of_priced priced.now) }
+fn render_priced(line: &mut SpelledLine, priced: &Priced)
+    requires { line.old.items ≡ [] }
+    ensures { line.new.items ≡ line_of_words (words_of_priced priced.now) }
 {
-    let mut line = if priced.again {
-        started(b"AGAIN ")
+    if priced.again {
+        begin(line, b"AGAIN ");
     } else {
-        started(b"OK ")
-    };
-    put_number(&mut line, priced.day);
-    put(&mut line, b" ");
-    put_number(&mut line, priced.day_price.pence());
-    put(&mut line, b" ");
-    put_number(&mut line, priced.week_price.pence());
-    put(&mut line, b"\n");
-    line
+        begin(line, b"OK ");
+    }
+    put_number(line, priced.day);
+    put(line, b" ");
+    put_number(line, priced.day_price.pence());
+    put(line, b" ");
+    put_number(line, priced.week_price.pence());
+    put(line, b"\n");
 }
 
-fn done_line(closed: &Closed) -> SpelledLine
-    ensures { result.items ≡ line_of_words (words_of_closed closed.now) }
+fn render_closed(line: &mut SpelledLine, closed: &Closed)
+    requires { line.old.items ≡ [] }
+    ensures { line.new.items ≡ line_of_words (words_of_closed closed.now) }
 {
-    let mut line = started(b"DONE ");
-    put_number(&mut line, closed.day);
-    put(&mut line, b" ");
-    put_number(&mut line, closed.postings.as_slice().len());
-    put(&mut line, b"\n");
-    line
+    begin(line, b"DONE ");
+    put_number(line, closed.day);
+    put(line, b" ");
+    put_number(line, closed.postings.as_slice().len());
+    put(line, b"\n");
 }
 
 #[tactic(auto, using(crate::proofs::Fields::due_fields))]
-fn render_due(quote: &Quote) -> SpelledLine
-    ensures { result.items ≡ line_of_words (words_of_due quote.now) }
+fn render_due(line: &mut SpelledLine, quote: &Quote)
+    requires { line.old.items ≡ [] }
+    ensures { line.new.items ≡ line_of_words (words_of_due quote.now) }
 {
-    let mut line = started(b"DUE");
-    put_quote(&mut line, quote);
-    put_shares(&mut line, quote.shares());
-    put(&mut line, b"\n");
-    line
+    begin(line, b"DUE");
+    put_quote(line, quote);
+    put_shares(line, quote.shares());
+    put(line, b"\n");
 }
 
-fn render_refusal(refusal: Refusal) -> SpelledLine
-    ensures { result.items ≡ line_of_words (words_of_refusal refusal) }
+fn render_refusal(line: &mut SpelledLine, refusal: Refusal)
+    requires { line.old.items ≡ [] }
+    ensures { line.new.items ≡ line_of_words (words_of_refusal refusal) }
 {
-    let mut line = started(b"NO ");
-    put_number(&mut line, refusal.number());
-    put(&mut line, b" ");
-    put(&mut line, refusal.name().as_bytes());
-    put(&mut line, b"\n");
-    line
+    begin(line, b"NO ");
+    put_number(line, refusal.number());
+    put(line, b" ");
+    put(line, refusal.name().as_bytes());
+    put(line, b"\n");
 }
 
-/// A line that begins so.
-pub(crate) fn started(text: &[u8]) -> SpelledLine
-    requires { length text.now ≤ REPLY_BYTES }
-    ensures { result.items ≡ text.now }
+/// Begins an empty line.
+pub(crate) fn begin(line: &mut SpelledLine, text: &[u8])
+    requires empty { line.old.items ≡ [] }
+    requires room { length text.now ≤ REPLY_BYTES }
+    ensures { line.new.items ≡ text.now }
 {
-    let mut line = ArrayVec::new();
-    put(&mut line, text);
-    line
+    put(line, text);
 }
 
 /// Puts a quote at the end of a line: the account, the week, its last day, the version and what is due.

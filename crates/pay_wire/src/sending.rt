@@ -7,7 +7,8 @@ ghost use Rattle.pay_wire.specs.Replies.{spelling_of_reply, ending_of_reply, tex
 
 use crate::known_writer::KnownWriter;
 use crate::output::{Output, State, WriteFault};
-use crate::reply::{SpelledReply, journey_line, main_line, posting_line};
+use crate::reply::{SpelledReply, render_journey, render_main_line, render_posting};
+use arrayvec::ArrayVec;
 use pay_rules::{Line, Posting};
 use std::io::ErrorKind;
 
@@ -71,7 +72,9 @@ fn write_postings<W: KnownWriter>(
     ensures cause { IfErr result (λ fault. IsCaused W.MayAnswer fault output.new.writer.now) }
 {
     for posting in postings {
-        write_whole(output, posting_line(posting).as_slice())?;
+        let mut line = ArrayVec::new();
+        render_posting(&mut line, posting);
+        write_whole(output, line.as_slice())?;
     }
     Ok(())
 }
@@ -91,7 +94,9 @@ fn write_journeys<W: KnownWriter>(
     ensures cause { IfErr result (λ fault. IsCaused W.MayAnswer fault output.new.writer.now) }
 {
     for journey in journeys {
-        write_whole(output, journey_line(journey).as_slice())?;
+        let mut line = ArrayVec::new();
+        render_journey(&mut line, journey);
+        write_whole(output, line.as_slice())?;
     }
     Ok(())
 }
@@ -110,7 +115,9 @@ fn write_ending<W: KnownWriter>(
     ensures not_interrupted { IfErr result (λ fault. fault ≢ WriteFault.Failed ErrorKind.Interrupted) }
     ensures cause { IfErr result (λ fault. IsCaused W.MayAnswer fault output.new.writer.now) }
 {
-    write_whole(output, main_line(reply).as_slice())?;
+    let mut line = ArrayVec::new();
+    render_main_line(&mut line, reply);
+    write_whole(output, line.as_slice())?;
     write_journeys(output, reply.journeys())
 }
 

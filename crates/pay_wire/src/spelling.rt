@@ -5,80 +5,83 @@ ghost use Rattle.pay_wire.specs.Replies.{text_of_fields};
 ghost use Rattle.pay_wire.specs.Spellings.{spelling_of_kind, spelling_of_tap, words_of_what, spelling_of_fix, spelling_of_account_day, spelling_of_close, spelling_of_command};
 
 use crate::command::{SpelledCommand, SpelledFix, SpelledTap, SpelledWhat};
-use crate::reply::{REPLY_BYTES, SpelledLine, put, put_field, started};
+use crate::reply::{REPLY_BYTES, SpelledLine, begin, put, put_field};
+use arrayvec::ArrayVec;
 use pay_rules::Kind;
 
 /// The line of a command, newline included: its one spelling, if its numbers are in their ranges.
 pub fn command_line(command: &SpelledCommand) -> SpelledLine
     ensures { result.items ≡ spelling_of_command command.now ++ codes "\n" }
 {
-    let mut line = spelled(command);
+    let mut line = ArrayVec::new();
+    spell(&mut line, command);
     put(&mut line, b"\n");
     line
 }
 
-/// The words of a command, without a newline.
-fn spelled(command: &SpelledCommand) -> SpelledLine
-    ensures items { result.items ≡ spelling_of_command command.now }
-    ensures len { array_vec_len result + 1 ≤ REPLY_BYTES }
+/// Spells a command into an empty line, without a newline.
+fn spell(line: &mut SpelledLine, command: &SpelledCommand)
+    requires { line.old.items ≡ [] }
+    ensures items { line.new.items ≡ spelling_of_command command.now }
+    ensures len { array_vec_len line.new + 1 ≤ REPLY_BYTES }
 {
     match command {
-        SpelledCommand::Tap(tap) => spelled_tap(tap),
-        SpelledCommand::Fix(fix) => spelled_fix(fix),
-        SpelledCommand::Due { account, day } => spelled_account_day(b"DUE", *account, *day),
-        SpelledCommand::Show { account, day } => spelled_account_day(b"SHOW", *account, *day),
-        SpelledCommand::Close { day } => spelled_close(*day),
-        SpelledCommand::Quit => started(b"QUIT"),
+        SpelledCommand::Tap(tap) => spell_tap(line, tap),
+        SpelledCommand::Fix(fix) => spell_fix(line, fix),
+        SpelledCommand::Due { account, day } => spell_account_day(line, b"DUE", *account, *day),
+        SpelledCommand::Show { account, day } => spell_account_day(line, b"SHOW", *account, *day),
+        SpelledCommand::Close { day } => spell_close(line, *day),
+        SpelledCommand::Quit => begin(line, b"QUIT"),
     }
 }
 
 #[tactic(auto, using(crate::proofs::Fields::six_fields))]
-fn spelled_tap(tap: &SpelledTap) -> SpelledLine
-    ensures items { result.items ≡ spelling_of_tap tap.now }
-    ensures len { array_vec_len result + 1 ≤ REPLY_BYTES }
+fn spell_tap(line: &mut SpelledLine, tap: &SpelledTap)
+    requires { line.old.items ≡ [] }
+    ensures items { line.new.items ≡ spelling_of_tap tap.now }
+    ensures len { array_vec_len line.new + 1 ≤ REPLY_BYTES }
 {
-    let mut line = started(b"TAP");
-    put_field(&mut line, tap.reader);
-    put_field(&mut line, tap.seq);
-    put_field(&mut line, tap.account);
-    put_field(&mut line, tap.utc);
-    put_field(&mut line, tap.place);
-    put_word(&mut line, kind_word(tap.kind));
-    line
+    begin(line, b"TAP");
+    put_field(line, tap.reader);
+    put_field(line, tap.seq);
+    put_field(line, tap.account);
+    put_field(line, tap.utc);
+    put_field(line, tap.place);
+    put_word(line, kind_word(tap.kind));
 }
 
 #[tactic(auto, using(crate::proofs::Fields::three_and_more))]
-fn spelled_fix(fix: &SpelledFix) -> SpelledLine
-    ensures items { result.items ≡ spelling_of_fix fix.now }
-    ensures len { array_vec_len result + 1 ≤ REPLY_BYTES }
+fn spell_fix(line: &mut SpelledLine, fix: &SpelledFix)
+    requires { line.old.items ≡ [] }
+    ensures items { line.new.items ≡ spelling_of_fix fix.now }
+    ensures len { array_vec_len line.new + 1 ≤ REPLY_BYTES }
 {
-    let mut line = started(b"FIX");
-    put_field(&mut line, fix.staff);
-    put_field(&mut line, fix.seq);
-    put_field(&mut line, fix.account);
-    put_what(&mut line, &fix.what);
-    line
+    begin(line, b"FIX");
+    put_field(line, fix.staff);
+    put_field(line, fix.seq);
+    put_field(line, fix.account);
+    put_what(line, &fix.what);
 }
 
 #[tactic(auto, using(crate::proofs::Fields::two_words))]
-fn spelled_account_day(name: &[u8], account: u32, day: u32) -> SpelledLine
-    requires { length name.now ≤ 6 }
-    ensures items { result.items ≡ spelling_of_account_day name.now account day }
-    ensures len { array_vec_len result + 1 ≤ REPLY_BYTES }
+fn spell_account_day(line: &mut SpelledLine, name: &[u8], account: u32, day: u32)
+    requires empty { line.old.items ≡ [] }
+    requires short { length name.now ≤ 6 }
+    ensures items { line.new.items ≡ spelling_of_account_day name.now account day }
+    ensures len { array_vec_len line.new + 1 ≤ REPLY_BYTES }
 {
-    let mut line = started(name);
-    put_field(&mut line, account);
-    put_field(&mut line, day);
-    line
+    begin(line, name);
+    put_field(line, account);
+    put_field(line, day);
 }
 
-fn spelled_close(day: u32) -> SpelledLine
-    ensures items { result.items ≡ spelling_of_close day }
-    ensures len { array_vec_len result + 1 ≤ REPLY_BYTES }
+fn spell_close(line: &mut SpelledLine, day: u32)
+    requires { line.old.items ≡ [] }
+    ensures items { line.new.items ≡ spelling_of_close day }
+    ensures len { array_vec_len line.new + 1 ≤ REPLY_BYTES }
 {
-    let mut line = started(b"CLOSE");
-    put_field(&mut line, day);
-    line
+    begin(line, b"CLOSE");
+    put_field(line, day);
 }
 
 /// Puts what a correction does at the end of a line.

@@ -10,10 +10,10 @@ pub returns-in_err-write_whole-clause-err : goal.returns-in_err-write_whole-clau
 returns-in_err-write_whole-clause-err g c =
     let r = c.args.reply.now in
     on_err c.from_residual.result (front_more _ _ (line_of_words (words_of_reply r)) (text_of_journeys (journeys_of_reply r))
-    (subst (AppendsFront _ _) (c.as_slice.ensures.value ∙ c.main_line.ensures) c.in_err-write_whole.ensures.err))
+    (subst (AppendsFront _ _) (c.as_slice.ensures.value ∙ c.render_main_line.ensures) c.in_err-write_whole.ensures.err))
 
 pub returns-clause-err : goal.returns-clause-err
 returns-clause-err g c =
     let r = c.args.reply.now in
-    let head = subst (Appends _ _) (c.as_slice.ensures.value ∙ c.main_line.ensures) c.in_ok-write_whole.ensures.ok in
+    let head = subst (Appends _ _) (c.as_slice.ensures.value ∙ c.render_main_line.ensures) c.in_ok-write_whole.ensures.ok in
     on_err_weaker c.write_journeys.result (λ front. front_then _ _ _ (line_of_words (words_of_reply r)) (text_of_journeys (journeys_of_reply r)) head (subst (AppendsFront _ _) (ap text_of_journeys c.journeys.ensures) front)) c.write_journeys.ensures.err
