@@ -193,9 +193,8 @@ SHOWN_DAYS = (19_730, 19_731)
 MARKED = (
     "takes_more_taps_than_the_set_has_places", "keeps_corrections_by_number", "boardings_by_late_taps",
     "runs_by_late_taps", "a_desk_without_memory", "accounts_in_ascending_order", "a_turn_without_memory",
-    "charges_and_gives_back", "restores_corrections", "posts_all_or_nothing_without_memory",
-    "makes_all_tables_or_none_without_memory", "restores_no_bad_correction", "restores_no_bad_tap",
-    "copies_all_or_nothing_without_memory",
+    "restores_corrections", "posts_all_or_nothing_without_memory", "makes_all_tables_or_none_without_memory",
+    "restores_no_bad_correction", "restores_no_bad_tap", "copies_all_or_nothing_without_memory",
 )
 
 

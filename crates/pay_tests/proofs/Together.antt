@@ -1,9 +1,9 @@
 -- Two lanes and a worker that have gone on.
-use Rattle.std.proofs.Common.{◌≡◌, ℕ, zero, suc, ◌+◌, ◌<◌, List, [], ◌∷◌, ◌++◌, length, take, drop, All, Any, get_or, slice_index_or, slice_set, Option, Some, option_to_list, Result, Ok, is_ok, if◌then◌else◌, sym, ap, ◌∙◌, subst, append_assoc, arith}
+use Rattle.std.proofs.Common.{◌≡◌, ℕ, ◌<◌, List, [], ◌∷◌, ◌++◌, length, All, Any, get_or, Option, Some, option_to_list, Result, Ok, is_ok, if◌then◌else◌, sym, ap, ◌∙◌, subst, append_assoc, arith}
 use Rattle.std.specs.List.{AllZip}
 use Rattle.std.proofs.Math.Seq.{get_or-append_seam}
 use Rattle.std.proofs.lemmas.List.{length-append, get_or_append_left, get_or_default}
-use Rattle.std.proofs.lemmas.List.Elements.{All-append, All-cons, All-head, All-tail, All-same, All-take, All-drop}
+use Rattle.std.proofs.lemmas.List.Elements.{All-append, All-cons, All-head, All-tail}
 use Rattle.pay_lanes.specs.Words.{LaneParts, WorkerParts, IsSameLane, IsSameWorker, GoOn}
 
 -- what was popped stood last
@@ -39,29 +39,6 @@ module _ (lane_itself : (l : LaneParts) → IsSameLane l l) (worker_itself : (w 
   workers_go_on : (ws : List WorkerParts) (w v : WorkerParts) → IsSameWorker w v → AllZip IsSameWorker (ws ++ w ∷ []) (ws ++ v ∷ [])
   workers_go_on [] w v same = (same, tt)
   workers_go_on (x ∷ ws) w v same = (worker_itself x, workers_go_on ws w v same)
-
-  -- workers, each as it was
-  pub workers_stay : (ws : List WorkerParts) → AllZip IsSameWorker ws ws
-  workers_stay [] = tt
-  workers_stay (w ∷ ws) = (worker_itself w, workers_stay ws)
-
-  -- one of them has gone on
-  pub one_goes_on : (ws : List WorkerParts) (place : ℕ) (w v : WorkerParts) → place < length ws → w ≡ slice_index_or ws place w → IsSameWorker w v → AllZip IsSameWorker ws (slice_set ws place v)
-  one_goes_on [] place w v within is same = absurd (omega arith)
-  one_goes_on (x ∷ ws) zero w v within is same = (subst (λ y. IsSameWorker y v) is same, workers_stay ws)
-  one_goes_on (x ∷ ws) (suc place) w v within is same = (worker_itself x, one_goes_on ws place w v (omega arith) is same)
-
-  -- lanes, each as it was
-  pub lanes_stay : (ls : List LaneParts) → All (GoesOn ls) ls
-  lanes_stay ls k d within =
-      let e : LaneParts = get_or ls k d in
-      (k, e, within, get_or_default ls k e d within, lane_itself e)
-
-  -- all but the one at a place, each as it was
-  pub without_one : (ls : List LaneParts) (place : ℕ) (ks : List LaneParts) → ks ≡ take place ls ++ drop (place + 1) ls → All (GoesOn ls) ks
-  without_one ls place ks is =
-      All-same (GoesOn ls) ks (take place ls ++ drop (place + 1) ls) is
-      (All-append (GoesOn ls) (take place ls) (drop (place + 1) ls) (All-take (GoesOn ls) place ls (lanes_stay ls)) (All-drop (GoesOn ls) (place + 1) ls (lanes_stay ls)))
 
   -- the last two, of which each has gone on, in the other order
   lanes_go_on : (ls : List LaneParts) (l m k n : LaneParts) → IsSameLane l k → IsSameLane m n → All (GoesOn ((ls ++ l ∷ []) ++ m ∷ [])) ((ls ++ n ∷ []) ++ k ∷ [])

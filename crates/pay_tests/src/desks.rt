@@ -4,7 +4,6 @@ ghost use Rattle.std.specs.Prelude.{◌≡◌};
 ghost use Rattle.pay_shard.specs.Words.{IsForShards};
 
 use crate::given::{MAY_BE_REFUSED, MONDAY, WAS_REFUSED, expect_same, sample, tap_at, tell};
-use crate::shards::day_price;
 use pay_book::Book;
 use pay_rules::{Kind, Tap};
 use pay_shard::{Asked, Command, Desk, LocalDesk, Reply};
@@ -17,6 +16,14 @@ pub fn empty_desk<R: Abort + AllocGlobal>(rt: &R, editions: Editions) -> LocalDe
     let editions = Arc::new(rt.alloc(), editions).expect(rt, "memory");
     let none: Vec<Book> = Vec::new(rt.alloc());
     LocalDesk::new(rt.alloc(), editions, none).expect(rt, "memory")
+}
+
+/// The price of the day that a reply tells.
+fn day_price(reply: &Reply) -> Option<u64> {
+    match reply {
+        Reply::Priced(priced) => Some(priced.day_price.pence()),
+        _ => None,
+    }
 }
 
 /// The reply to what is put, and none if memory runs out.

@@ -4,7 +4,6 @@ use crate::sample::SAMPLE_FARES;
 use jiff::tz::TimeZone;
 use pay_day::Moment;
 use pay_editions::read_editions;
-use pay_money::limits::OPERATORS;
 use pay_rules::{Kind, Tap, Touch};
 use pay_tables::Editions;
 use std::fmt::Debug;
@@ -42,16 +41,6 @@ pub const WAS_REFUSED: usize = 1_000_037;
 /// Tells one of these.
 pub fn tell<R: AllocGlobal>(rt: &R, bytes: usize) {
     let _ = Vec::<u8>::with_capacity(rt.alloc(), bytes);
-}
-
-/// What the first four operators have, where the others have nothing.
-pub fn first_four(one: u64, two: u64, three: u64, four: u64) -> [u64; OPERATORS] {
-    let mut all = [0; OPERATORS];
-    all[0] = one;
-    all[1] = two;
-    all[2] = three;
-    all[3] = four;
-    all
 }
 
 /// The sample fare file, whose bands are that of the buses (525 a day, 2470 a week), of zones 1 to 2

@@ -1,7 +1,6 @@
 //! The tests of lanes and workers, and of offices and desks: what is sent is answered, whatever the threads do.
 
 mod desks;
-mod ending;
 mod gates;
 mod given;
 mod memory;

@@ -1,11 +1,8 @@
-//! The tests of ledgers in memory and of closes into them, from what is opened as a ledger to lines over one.
+//! The tests of ledgers in memory, from what is opened as a ledger to lines over one.
 
-mod accounts;
 mod archives;
-mod closing;
 mod faults;
-mod ledger;
-mod lines;
+pub mod ledger;
+pub mod lines;
 mod opening;
-mod unending;
 mod upgrading;

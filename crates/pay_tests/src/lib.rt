@@ -11,10 +11,6 @@ mod books;
 #[cfg(test)]
 mod desks;
 #[cfg(test)]
-mod dice;
-#[cfg(test)]
-mod drawn;
-#[cfg(test)]
 mod faults;
 #[cfg(test)]
 mod fix_pages;
@@ -31,17 +27,11 @@ mod ledgers;
 #[cfg(test)]
 mod pages;
 #[cfg(test)]
-mod pieces;
-#[cfg(test)]
-mod quotes;
-#[cfg(test)]
 mod restores;
 #[cfg(test)]
 mod sample;
 #[cfg(test)]
 mod sessions;
-#[cfg(test)]
-mod shards;
 #[cfg(test)]
 mod steps;
 #[cfg(test)]

@@ -1,5 +1,5 @@
 //! The pages of customer service, whole: each kind of journey, a name with markup in it, and a correction.
-use crate::given::{MAY_BE_REFUSED, MONDAY, WAS_REFUSED, expect_same, sample, tap_at, tell};
+use crate::given::{MONDAY, expect_same, sample, tap_at};
 use pay_day::Moment;
 use pay_fix::FixSet;
 use pay_names::Names;
@@ -53,16 +53,10 @@ fn credit<R: Abort>(rt: &R) -> Fix {
     }
 }
 
-/// So this page came, or memory was refused.
-fn expect_page<R: Abort + AllocGlobal>(
-    rt: &R,
-    page: Result<String, AllocError>,
-    wanted: &'static str,
-) {
-    match page {
-        Ok(page) => expect_same(rt, page.as_str(), wanted),
-        Err(_) => tell(rt, WAS_REFUSED),
-    }
+/// So this page came.
+fn expect_page<R: Abort>(rt: &R, page: Result<String, AllocError>, wanted: &'static str) {
+    let page = page.expect(rt, "memory");
+    expect_same(rt, page.as_str(), wanted);
 }
 
 /// What was posted, beside journals without a line.
@@ -84,7 +78,6 @@ fn shows_a_day_and_its_week(rt: HostRuntime) {
     let taps = taps(&rt);
     let mut fixes = FixSet::new(alloc);
     let _ = fixes.add(credit(&rt)).expect(&rt, "memory");
-    tell(&rt, MAY_BE_REFUSED);
     let day = day_page(alloc, true, &names, &editions, &taps, &fixes, 7, MONDAY);
     expect_page(&rt, day, DAY);
     let unknown = Posted::Unknown;

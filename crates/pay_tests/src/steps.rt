@@ -4,10 +4,10 @@
 ghost use Rattle.pay_book.specs.Stored.{IsConsistent};
 
 use crate::accounts::empty_account;
-use crate::given::{MONDAY, expect_same, sample};
+use crate::given::{expect_same, sample};
 use pay_book::Book;
 use pay_day::Moment;
-use pay_rules::{Credit, Fares, Fix, Kind, Tap, What};
+use pay_rules::{Fares, Fix, Kind, Tap, What};
 use pay_shard::Asked;
 use pay_tables::Editions;
 use std::process::Abort;
@@ -141,14 +141,6 @@ fn few_where_there_are_few(rt: HostRuntime) {
     expect_read(&rt, &[], &[(first, 0, 0), (second, 1, 1), (again, 0, 0)]);
 }
 
-// The tap is 2,000 seconds after one and before another, and after that is one with none shortly before it.
-#[test]
-fn one_among_sixteen_thousand_boardings(rt: HostRuntime) {
-    let all = boardings(&rt, 16_000, 4_000);
-    let late = tap(&rt, 16_000, SEVEN + 4_000 * 8_000 + 2_000, 50, Kind::Bus);
-    expect_read(&rt, &all, &[(late, 1, 64 + 4 * 3)]);
-}
-
 // The tap ends a leg earlier, so that it parts one journey of two taps into one of two and one of one.
 #[test]
 fn one_among_eight_thousand_rides(rt: HostRuntime) {
@@ -166,17 +158,4 @@ fn one_before_all_that_there_may_be(rt: HostRuntime) {
     let again = tap(&rt, 16_383, SEVEN - 1_000, 50, Kind::Bus);
     let (least, most) = (16_383, 64 + 4 * 16_383);
     expect_read(&rt, &all, &[(late, least, most), (again, 0, 64)]);
-}
-
-/// A Credit of one pound.
-fn pound<R: Abort>(rt: &R) -> Asked {
-    let credit = Credit::from_parts(MONDAY, 100).expect(rt, "a credit");
-    fix(1, What::Credit(credit))
-}
-
-// A Credit disturbs none of them.
-#[test]
-fn one_credit_beside_a_thousand_boardings(rt: HostRuntime) {
-    let all = boardings(&rt, 1_000, 3_000);
-    expect_read(&rt, &all, &[(pound(&rt), 0, 64)]);
 }

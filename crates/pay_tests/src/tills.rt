@@ -13,7 +13,7 @@ use pay_account::Account;
 use pay_book::Book;
 use pay_money::limits::OPERATORS;
 use pay_rules::{Fares, Kind, Posting, Postings};
-use pay_session::{Done, SessionFault, session};
+use pay_session::{Done, session};
 use pay_shard::{Command, Desk, DeskFault, LocalDesk, Reply, Ticket};
 use pay_tables::Editions;
 use pay_till::Till;
@@ -195,61 +195,20 @@ fn desk<R: Abort + AllocGlobal>(rt: &R, editions: Editions) -> Unwilling {
     }
 }
 
-/// What a session came to: how it ended, how many commands its desk was asked, and how many closes its till.
-#[derive(Clone, Copy, Debug, PartialEq, Eq)]
-struct Ended {
-    result: Result<Done, SessionFault>,
-    asked: u8,
-    closes: usize,
-}
-
-/// A session of lines comes to this, with these replies.
-fn expect_ended<R: Abort + AllocGlobal>(rt: &R, mut lines: &[u8], wanted: Ended, replies: &str) {
-    let editions = sample(rt);
-    let mut till = till(rt, &editions);
-    let mut desk = desk(rt, editions);
-    let zone = TimeZone::posix("GMT0BST,M3.5.0/1,M10.5.0").expect(rt, "a rule");
+#[test]
+fn says_what_a_desk_and_a_till_say(rt: HostRuntime) {
+    let editions = sample(&rt);
+    let mut till = till(&rt, &editions);
+    let mut desk = desk(&rt, editions);
+    let zone = TimeZone::posix("GMT0BST,M3.5.0/1,M10.5.0").expect(&rt, "a rule");
     let mut writer = Flushed::new(rt.alloc(), usize::MAX);
+    let mut lines = LINES.as_bytes();
     let result = session(&mut lines, &mut writer, &zone, &mut desk, &mut till);
-    let ended = Ended {
-        result,
-        asked: desk.asked,
-        closes: till.closes,
-    };
-    expect_same(rt, ended, wanted);
-    expect_same(rt, writer.held.as_slice(), replies.as_bytes());
-}
-
-/// What all lines come to.
-const ALL: Ended = Ended {
-    result: Ok(Done {
+    let wanted = Done {
         answered: 15,
         quit: true,
         lacked_memory: true,
-    }),
-    asked: 5,
-    closes: 9,
-};
-
-#[test]
-fn says_what_a_desk_and_a_till_say(rt: HostRuntime) {
-    expect_ended(&rt, LINES.as_bytes(), ALL, REPLIES);
-}
-
-/// What the first three lines come to.
-const THREE: Ended = Ended {
-    result: Ok(Done {
-        answered: 3,
-        quit: false,
-        lacked_memory: false,
-    }),
-    asked: 3,
-    closes: 0,
-};
-
-#[test]
-fn tells_that_memory_was_not_wanting(rt: HostRuntime) {
-    let three = LINES.split_at_checked(52).expect(&rt, "three lines");
-    let replies = REPLIES.split_at_checked(35).expect(&rt, "their replies");
-    expect_ended(&rt, three.0.as_bytes(), THREE, replies.0);
+    };
+    expect_same(&rt, (result, desk.asked, till.closes), (Ok(wanted), 5, 9));
+    expect_same(&rt, writer.held.as_slice(), REPLIES.as_bytes());
 }

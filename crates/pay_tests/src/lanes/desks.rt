@@ -1,17 +1,20 @@
-//! Desks over a lane of an office: their replies are those of the shards, in whatever order they are got.
+//! Desks over a lane of an office: a reply that is late, and closes over all shards.
 ghost use Rattle.std.specs.Prelude.{◌≡◌, ℕ, [], ◌∷◌, ◌++◌};
-ghost use Rattle.pay_rules.specs.InTurn.{IsIn};
-ghost use Rattle.pay_shard.specs.Words.{IsForShards, IsNoneOf, with_waiting, without};
+ghost use Rattle.pay_shard.specs.Words.{IsForShards, IsNoneOf, with_waiting};
 
 use crate::given::expect_same;
 use crate::lanes::gates::{Counting, Counts, gates};
 use crate::lanes::given::{add_last, bus_tap, take_last};
-use crate::lanes::offices::{Begun, begin, expect_items};
+use crate::lanes::offices::{Begun, LOOKS, begin, expect_items};
+use crate::ledgers::ledger::empty_ledger;
+use crate::ledgers::lines::expect_closed;
 use pay_book::Book;
 use pay_lanes::{Lane, laws};
+use pay_ledger::Ledger;
 use pay_office::{Ended, LaneDesk, Office};
 use pay_rules::Fares;
 use pay_shard::{Command, Desk, DeskFault, Reply, Ticket};
+use sqlite::Alter;
 use std::marker::Model;
 use std::process::Abort;
 use std::sync::Wait;
@@ -34,34 +37,6 @@ fn price(reply: &Reply) -> Option<u64> {
     }
 }
 
-// Gets the reply to a tap: its pence.
-fn get<D: Desk, R: Abort>(rt: &R, desk: &mut D, ticket: Ticket) -> Option<u64>
-    requires { IsIn (D.parts desk.old).standing.waiting ticket }
-    ensures { (D.parts desk.new).standing ≡ with_waiting (without ticket (D.parts desk.old).standing.waiting) (D.parts desk.old).standing }
-{
-    let reply = desk.get(ticket).ok().expect(rt, "a reply");
-    price(&reply)
-}
-
-// Puts two taps, and gets the reply to the second and then that to the first: the pence of each.
-fn ask_both<D: Desk, R: Abort>(
-    rt: &R,
-    desk: &mut D,
-    first: Command,
-    second: Command,
-) -> (Option<u64>, Option<u64>)
-    requires first { (shards : ℕ) → IsForShards shards first }
-    requires second { (shards : ℕ) → IsForShards shards second }
-    ensures { (D.parts desk.new).standing ≡ (D.parts desk.old).standing }
-{
-    pay_shard::laws::put_then_get::<D>();
-    let first = put(rt, desk, first);
-    let second = put(rt, desk, second);
-    let of_second = get(rt, desk, second);
-    let of_first = get(rt, desk, first);
-    (of_first, of_second)
-}
-
 // Puts a tap and gets the reply to it: the number of its ticket, and its pence.
 fn ask<D: Desk, R: Abort>(
     rt: &R,
@@ -74,33 +49,6 @@ fn ask<D: Desk, R: Abort>(
     pay_shard::laws::put_then_get::<D>();
     let ticket = put(rt, desk, command);
     (ticket.number(), desk.get(ticket).map(|reply| price(&reply)))
-}
-
-// Puts so many taps of account 7, each a second after the one before.
-fn put_taps<D: Desk, R: Abort>(rt: &R, desk: &mut D, count: u32)
-    ensures { (D.parts desk.new).standing.origin ≡ (D.parts desk.old).standing.origin }
-{
-    for second in 0..count {
-        let command = bus_tap(rt, 7, 1, second);
-        put(rt, desk, command);
-    }
-}
-
-// Puts as many taps as may wait, one more that is refused, and one more once a reply was got: why the one is refused, the pence
-// of the reply, and the ticket of the other.
-fn fill<D: Desk, R: Abort>(rt: &R, desk: &mut D) -> (DeskFault, Option<u64>, u64)
-    ensures { (D.parts desk.new).standing.origin ≡ (D.parts desk.old).standing.origin }
-{
-    pay_shard::laws::put_then_get::<D>();
-    put_taps(rt, desk, 15);
-    let command = bus_tap(rt, 8, 1, 0);
-    let sixteenth = put(rt, desk, command);
-    let Err(refused) = desk.put(command) else {
-        panic!(rt; "a ticket")
-    };
-    let pence = get(rt, desk, sixteenth);
-    let next = put(rt, desk, command);
-    (refused, pence, next.number())
 }
 
 // An office of one lane, and a desk over it.
@@ -144,23 +92,6 @@ where
 }
 
 impl<F: Fares, R: Threads + Wait + Abort + AllocGlobal + Copy> Desked<F, R> {
-    // With a new desk over the same lane.
-    fn anew(self, rt: R) -> Desked<F, R> {
-        laws::still_together();
-        laws::same_workers();
-        let Desked { office, desk } = self;
-        Desked {
-            office,
-            desk: desk_over(rt, desk.into_lane()),
-        }
-    }
-
-    // Puts a tap of account 7 and one of account 8 at these seconds, and compares the pence of their replies.
-    fn expect_both(&mut self, rt: R, seven: u32, eight: u32, wanted: (Option<u64>, Option<u64>)) {
-        let (seven, eight) = (bus_tap(&rt, 7, 1, seven), bus_tap(&rt, 8, 1, eight));
-        expect_same(&rt, ask_both(&rt, &mut self.desk, seven, eight), wanted);
-    }
-
     // Puts a tap of an account at a second, and compares its ticket and the pence of the reply.
     fn expect_one(
         &mut self,
@@ -173,9 +104,16 @@ impl<F: Fares, R: Threads + Wait + Abort + AllocGlobal + Copy> Desked<F, R> {
         expect_same(&rt, ask(&rt, &mut self.desk, command), wanted);
     }
 
-    // Puts as many taps as may wait, and compares what is refused and answered.
-    fn expect_full(&mut self, rt: R, wanted: (DeskFault, Option<u64>, u64)) {
-        expect_same(&rt, fill(&rt, &mut self.desk), wanted);
+    // Answers lines over the desk and a ledger, and compares the replies.
+    fn expect_lines<S: Alter>(
+        &mut self,
+        rt: R,
+        ledger: &mut Ledger<S>,
+        lines: &str,
+        answered: u128,
+        replies: &str,
+    ) {
+        expect_closed(&rt, &mut self.desk, ledger, lines, answered, replies);
     }
 
     // Shuts the office.
@@ -190,28 +128,6 @@ impl<F: Fares, R: Threads + Wait + Abort + AllocGlobal + Copy> Desked<F, R> {
     }
 }
 
-// Two hours after a boarding that paid another pays; half an hour after it, it is free.
-#[test]
-fn a_desk_answers(rt: HostRuntime) {
-    let counts = Counts::new(&rt);
-    let mut desked: Desked<Book, HostRuntime> = begin_desk(rt, gates(&rt, &counts, &[0, 0], None));
-    desked.expect_both(rt, 0, 0, (Some(175), Some(175)));
-    desked.expect_both(rt, 7_200, 1_800, (Some(350), Some(175)));
-    let mut desked = desked.anew(rt);
-    desked.expect_one(rt, 8, 14_400, (4, Ok(Some(350))));
-    let ended = desked.shut(rt);
-    expect_items(&rt, &ended, 0, 3);
-    expect_items(&rt, &ended, 1, 2);
-}
-
-#[test]
-fn sixteen_wait_at_a_desk(rt: HostRuntime) {
-    let counts = Counts::new(&rt);
-    let mut desked: Desked<Book, HostRuntime> = begin_desk(rt, gates(&rt, &counts, &[0, 0], None));
-    desked.expect_full(rt, (DeskFault::Window, Some(175), 16));
-    desked.shut(rt);
-}
-
 // The shard answers both taps, the first when its reply is not waited for any more.
 #[test]
 fn a_late_reply(rt: HostRuntime) {
@@ -222,4 +138,30 @@ fn a_late_reply(rt: HostRuntime) {
     desked.expect_one(rt, 7, 7_200, (1, Ok(Some(350))));
     let ended = desked.shut(rt);
     expect_items(&rt, &ended, 0, 2);
+}
+
+/// A boarding for each shard, and a close. The fare of the route is operator 4's.
+const BOARDINGS: &str = "TAP 1 1 7 1704697200 50 BUS
+TAP 1 1 8 1704697200 50 BUS
+CLOSE 19730
+";
+
+const BOARDINGS_REPLIES: &str = "OK 19730 175 175
+OK 19730 175 175
+PAY 7 19730 19730 1 175 175 4=175
+PAY 8 19730 19730 1 175 175 4=175
+DONE 19730 2
+";
+
+// The gate of shard 0 holds its Quotes until those of shard 1 have come to theirs.
+#[test]
+fn all_shards_are_asked_before_one_has_answered(rt: HostRuntime) {
+    let counts = Counts::meeting(&rt);
+    let mut ledger = empty_ledger(&rt);
+    let gates = gates(&rt, &counts, &[2, 0], Some(LOOKS));
+    let mut desked: Desked<Book, HostRuntime> = begin_desk(rt, gates);
+    desked.expect_lines(rt, &mut ledger, "CLOSE 19730\n", 1, "DONE 19730 0\n");
+    desked.expect_lines(rt, &mut ledger, BOARDINGS, 3, BOARDINGS_REPLIES);
+    expect_same(&rt, counts.ran_out(), 0);
+    desked.shut(rt);
 }

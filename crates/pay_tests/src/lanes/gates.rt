@@ -126,15 +126,6 @@ pub struct Counting {
     opens_at: u64,
     // How often it looks at most; or else it waits until it is opened.
     looks: Option<u64>,
-    // How many answers it lets pass still.
-    passes: u64,
-}
-
-impl Counting {
-    /// How many answers it lets pass still.
-    pub fn passes(&self) -> u64 {
-        self.passes
-    }
 }
 
 impl Gate for Counting {
@@ -171,10 +162,6 @@ impl Gate for Counting {
         self.counts
             .waiting
             .store(load.waiting as u64, Ordering::SeqCst);
-        if self.passes == 0 {
-            return false;
-        }
-        self.passes -= 1;
         true
     }
 }
@@ -192,22 +179,8 @@ pub fn gates<R: Abort + AllocGlobal>(
             counts: counts.again(rt),
             opens_at: *opens_at,
             looks,
-            passes: u64::MAX,
         };
         gates.push(gate).expect(rt, "memory");
     }
-    gates
-}
-
-/// One gate, which waits for nothing and lets so many answers pass.
-pub fn passing<R: Abort + AllocGlobal>(rt: &R, passes: u64) -> Vec<Counting> {
-    let gate = Counting {
-        counts: Counts::new(rt),
-        opens_at: 0,
-        looks: Some(1),
-        passes,
-    };
-    let mut gates = Vec::new(rt.alloc());
-    gates.push(gate).expect(rt, "memory");
     gates
 }

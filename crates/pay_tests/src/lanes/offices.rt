@@ -4,11 +4,11 @@ ghost use Rattle.pay_lanes.specs.Words.{WorkerParts, AreTogether, IsSameLane};
 ghost use Rattle.pay_shard.specs.Words.{IsForShards};
 
 use crate::given::expect_same;
-use crate::lanes::gates::{Counting, Counts, gates, passing};
+use crate::lanes::gates::{Counting, Counts, gates};
 use crate::lanes::given::{add_last, bus_tap, due, one_route, sent, take_last, taken};
 use pay_book::Book;
 use pay_lanes::{Lane, SendFault, laws};
-use pay_office::{Ended, Office, ShutFault, StartFault, shut, start};
+use pay_office::{Ended, Office, ShutFault, shut, start};
 use pay_rules::Fares;
 use pay_shard::Command;
 use std::marker::Model;
@@ -17,8 +17,8 @@ use std::sync::Wait;
 use std::thread::Threads;
 use std::time::Duration;
 
-// How often a gate looks at most.
-const LOOKS: u64 = 1_000_000;
+/// How often a gate looks at most.
+pub const LOOKS: u64 = 1_000_000;
 // How often an answer is looked for, a millisecond after another, before a test gives up.
 const LONG: u32 = 30_000;
 
@@ -152,22 +152,6 @@ fn expect_job<R: Abort>(rt: &R, ended: &Ended<Counting>, shard: usize, lane: u8,
     );
 }
 
-#[test]
-fn shards_work_at_once(rt: HostRuntime) {
-    let counts = Counts::new(&rt);
-    let mut begun: Begun<Book> = begin(rt, 2, gates(&rt, &counts, &[1, 0], Some(LOOKS)));
-    let (first, second) = (bus_tap(&rt, 8, 1, 0), bus_tap(&rt, 7, 2, 0));
-    begun.expect_sent(&rt, 0, first, Ok(0));
-    begun.expect_sent(&rt, 1, second, Ok(0));
-    begun.expect_taken(&rt, 1, LONG, Some((0, Some(175))));
-    counts.open();
-    begun.expect_taken(&rt, 0, LONG, Some((0, Some(175))));
-    expect_same(&rt, counts.ran_out(), 0);
-    let ended = begun.shut(&rt);
-    expect_job(&rt, &ended, 0, 0, first);
-    expect_job(&rt, &ended, 1, 1, second);
-}
-
 // The tap that a lane sends to the shard of its number.
 fn tap_of<R: Abort>(rt: &R, lane: u8) -> Command
     ensures { (shards : ℕ) → IsForShards shards result }
@@ -239,26 +223,6 @@ fn what_waits_is_answered(rt: HostRuntime) {
     expect_items(&rt, &ended, 0, 65);
 }
 
-// Why no office of so many shards, lanes and gates begins.
-fn refused<R>(rt: R, shards: u8, lanes: u8, opens_at: &[u64]) -> Option<StartFault>
-where
-    R: Threads + Wait + Abort + AllocGlobal + Copy + Send + 'static,
-{
-    let gates = gates(&rt, &Counts::new(&rt), opens_at, None);
-    start::<Book, Counting, R>(rt, rt.alloc(), one_route(&rt), shards, lanes, gates).err()
-}
-
-#[test]
-fn an_office_is_refused(rt: HostRuntime) {
-    let count = Some(StartFault::Count);
-    expect_same(&rt, refused(rt, 0, 1, &[]), count);
-    expect_same(&rt, refused(rt, 17, 1, &[0; 17]), count);
-    expect_same(&rt, refused(rt, 1, 0, &[0]), count);
-    expect_same(&rt, refused(rt, 1, 17, &[0]), count);
-    expect_same(&rt, refused(rt, 2, 2, &[0]), count);
-    expect_same(&rt, refused(rt, 2, 2, &[0; 3]), count);
-}
-
 // Tries to shut an office whose lanes are not all there: why it is not shut, and what is given back.
 fn not_shut<F: Fares, R: Abort + Threads + Wait>(
     rt: &R,
@@ -298,28 +262,4 @@ fn a_lane_is_missing(rt: HostRuntime) {
     }
     let ended = begun.shut(&rt);
     expect_items(&rt, &ended, 0, 2);
-}
-
-// So the gate of the first shard lets no more answers pass, and three commands were popped and two left.
-fn expect_held<R: Abort>(rt: &R, ended: &Ended<Counting>) {
-    let gate = ended.gates.first().expect(rt, "a gate");
-    expect_same(rt, gate.passes(), 0);
-    let journal = ended.journals.get(0).expect(rt, "a journal");
-    let left = ended.left.get(0).expect(rt, "what was left");
-    expect_same(rt, (journal.len(), left.len()), (3, 2));
-}
-
-// Where the gate does not let the third answer pass, the lane gets two, and nothing more is popped.
-#[test]
-fn a_gate_that_holds_the_third_answer(rt: HostRuntime) {
-    let mut begun: Begun<Book> = begin(rt, 1, passing(&rt, 2));
-    for ticket in 0..5u32 {
-        let tap = bus_tap(&rt, 7, 1, ticket.saturating_mul(7_200));
-        begun.expect_sent(&rt, 0, tap, Ok(u64::from(ticket)));
-    }
-    begun.expect_taken(&rt, 0, LONG, Some((0, Some(175))));
-    begun.expect_taken(&rt, 0, LONG, Some((1, Some(350))));
-    begun.expect_taken(&rt, 0, 100, None);
-    let ended = begun.shut(&rt);
-    expect_held(&rt, &ended);
 }

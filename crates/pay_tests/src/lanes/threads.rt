@@ -268,11 +268,6 @@ where
 }
 
 #[test]
-fn two_lanes_and_one_shard(rt: HostRuntime) {
-    run_once(rt, 7);
-}
-
-#[test]
 fn whatever_the_threads_do(rt: HostRuntime) {
     for state in 0..200 {
         run_once(rt, state);

@@ -3,16 +3,16 @@
 
 ghost use Rattle.std.specs.Prelude.{◌≡◌, ◌≤◌, false};
 
+use crate::accounts::expect_price;
 use crate::given::{
     MAY_BE_REFUSED, MAY_NOT_BE, MONDAY, WAS_REFUSED, expect_list, expect_same, sample, tap_at, tell,
 };
-use crate::ledgers::accounts::{expect_price, expect_voided};
 use crate::ledgers::lines::expect_run;
 use pay_account::Account;
 use pay_ledger::{Ledger, LedgerFault, OpenFault};
 use pay_money::Pence;
 use pay_money::limits::OPERATORS;
-use pay_rules::{Fares, Kind, PostFault, Posting, Quote, Sets};
+use pay_rules::{Fares, Fix, Kind, PostFault, Posting, Priced, Quote, Sets, What};
 use pay_tables::Editions;
 use sqlite::{Alter, Connection, Error, MemStore, Row};
 use std::alloc::Global;
@@ -142,17 +142,10 @@ fn account_told<R: Abort>(rt: &R, account: &Account, editions: &Editions) -> (u3
 
 pub const NO_MEMORY: LedgerFault = LedgerFault::Refused(PostFault::Memory);
 
-/// So a refusal is the store's, or for memory, if that may be refused. Then it is told.
-pub fn expect_by_store<R: Abort + AllocGlobal>(
-    rt: &R,
-    is_store: bool,
-    is_memory: bool,
-    may_lack_memory: bool,
-) {
-    expect_same(rt, is_store || may_lack_memory && is_memory, true);
-    if may_lack_memory {
-        tell(rt, WAS_REFUSED);
-    }
+/// So a refusal is the store's, or for memory, and it is told.
+pub fn expect_by_store<R: Abort + AllocGlobal>(rt: &R, is_store: bool, is_memory: bool) {
+    expect_same(rt, is_store || is_memory, true);
+    tell(rt, WAS_REFUSED);
 }
 
 /// The accounts of a ledger, at the second time where memory is refused at the first.
@@ -165,7 +158,7 @@ fn restored<R: Abort + AllocGlobal, S: Alter + Drop>(
     let accounts = match ledger.restore(editions) {
         Ok(accounts) => accounts,
         Err(fault) => {
-            expect_by_store(rt, fault == LedgerFault::Store, fault == NO_MEMORY, true);
+            expect_by_store(rt, fault == LedgerFault::Store, fault == NO_MEMORY);
             ledger.restore(editions).expect(rt, "accounts")
         }
     };
@@ -189,16 +182,6 @@ pub fn expect_restored<R: Abort + AllocGlobal, S: Alter + Drop>(
     expect_same(rt, list.as_slice(), wanted);
 }
 
-/// Compares what the postings of an account for the week of the Monday come to.
-pub fn expect_net<R: Abort, S: Alter>(
-    rt: &R,
-    ledger: &mut Ledger<S>,
-    account: u32,
-    wanted: Result<i64, LedgerFault>,
-) {
-    expect_same(rt, ledger.net(account, MONDAY), wanted);
-}
-
 /// Compares the postings of account 7 for the week of the Monday, and what they come to.
 fn expect_week<R: Abort + AllocGlobal, S: Alter + Drop>(
     rt: &R,
@@ -209,7 +192,7 @@ fn expect_week<R: Abort + AllocGlobal, S: Alter + Drop>(
     let postings = ledger.postings(7, MONDAY).expect(rt, "postings");
     let list = told_all(rt, postings.as_slice());
     expect_same(rt, list.as_slice(), wanted);
-    expect_net(rt, ledger, 7, Ok(net));
+    expect_same(rt, ledger.net(7, MONDAY), Ok(net));
 }
 
 // A journey without its end costs the maximum, 860, and from station 10 to 12 it costs 340: 520 less. Both are operator 1's.
@@ -242,15 +225,6 @@ fn journey<R: Abort + AllocGlobal>(rt: &R, editions: &Editions) -> Ledger<MemSto
     expect_posted(rt, &mut ledger, (&batch.0, &batch.1), Ok(&[GIVEN_BACK]));
     expect_posted(rt, &mut ledger, (&batch.0, &batch.1), Ok(&[GIVEN_BACK]));
     ledger
-}
-
-#[test]
-fn charges_and_gives_back(rt: HostRuntime) {
-    let editions = sample(&rt);
-    let mut ledger = journey(&rt, &editions);
-    expect_week(&rt, &mut ledger, &[CHARGED, GIVEN_BACK], 340);
-    let mut ledger = expect_rows(&rt, ledger, JOURNEY);
-    expect_restored(&rt, &mut ledger, &editions, &[(7, 2, 340)]);
 }
 
 /// A quote of an account through the Monday, by the edition of a file's own keys, of which all is operator 1's.
@@ -361,6 +335,25 @@ fn boarded<R: Abort + AllocGlobal>(rt: &R, editions: &Editions, number: u32) -> 
     account
 }
 
+/// Sends a Void of the boarding, after which the day costs nothing.
+fn void_boarding<R: Abort>(rt: &R, account: &mut Account, editions: &Editions)
+    ensures { account.new.0 ≡ account.old.0 }
+{
+    let fix = Fix {
+        account: account.number(),
+        staff: 3,
+        seq: 1,
+        what: What::Void(1, 1),
+    };
+    let priced = Priced {
+        again: false,
+        day: MONDAY,
+        day_price: Pence::new(0),
+        week_price: Pence::new(0),
+    };
+    expect_same(rt, account.fix(editions, fix), Ok(priced));
+}
+
 /// What accounts 8 and 7 owe.
 fn both_owed<R: Abort>(
     rt: &R,
@@ -413,94 +406,44 @@ fn boardings<R: Abort + AllocGlobal>(
     let (mut eight, seven) = (boarded(rt, editions, 8), boarded(rt, editions, 7));
     let first = both_owed(rt, &eight, &seven, editions);
     expect_posted(rt, &mut ledger, (&first.0, &first.1), Ok(&BOARDED));
-    expect_voided(rt, &mut eight, editions, (1, 1), 0);
+    void_boarding(rt, &mut eight, editions);
     let second = both_owed(rt, &eight, &seven, editions);
     (expect_rows(rt, ledger, BOARDINGS), second)
 }
 
-/// What comes of a batch under a limit on steps, or where memory may be refused.
-#[derive(Clone, Copy, Debug, PartialEq, Eq)]
-enum Limited {
-    /// The ledger is not opened.
-    Closed,
-    /// The batch is refused.
-    Refused,
-    /// It is posted.
-    Posted,
-}
-
-/// Posts a batch under that limit, or else where memory may be refused.
+/// Opens the ledger and posts a batch where memory may be refused: the ledger, opened again, and whether it was posted.
 fn posted_or_not<R: Abort + AllocGlobal, S: Alter + Drop>(
     rt: &R,
-    ledger: &mut Ledger<S>,
-    limit: Option<u64>,
-    batch: (&[Quote], &[Sets]),
-) -> Limited {
-    match ledger.post(batch.0, batch.1) {
-        Err(fault) => {
-            let (is_store, is_memory) = (fault == LedgerFault::Store, fault == NO_MEMORY);
-            expect_by_store(rt, is_store, is_memory, limit.is_none());
-            Limited::Refused
-        }
-        Ok(_) => Limited::Posted,
-    }
-}
-
-/// Opens the ledger under a limit on steps, or else where memory may be refused, and posts a batch. Then it is opened without.
-fn post_within<R: Abort + AllocGlobal, S: Alter + Drop>(
-    rt: &R,
     ledger: Ledger<S>,
-    limit: Option<u64>,
     batch: (&[Quote], &[Sets]),
-) -> (Ledger<S>, Limited) {
-    let mut conn = ledger.into_connection();
-    conn.set_step_limit(limit);
+) -> (Ledger<S>, bool) {
+    let conn = ledger.into_connection();
     tell(rt, MAY_BE_REFUSED);
-    let (mut conn, outcome) = match Ledger::open(rt.alloc(), conn) {
+    let (conn, is_posted) = match Ledger::open(rt.alloc(), conn) {
         Err((fault, conn)) => {
-            let (is_store, is_memory) = (fault == OpenFault::Store, fault == OpenFault::Memory);
-            expect_by_store(rt, is_store, is_memory, limit.is_none());
-            (conn, Limited::Closed)
+            expect_by_store(rt, fault == OpenFault::Store, fault == OpenFault::Memory);
+            (conn, false)
         }
         Ok(mut ledger) => {
-            let outcome = posted_or_not(rt, &mut ledger, limit, batch);
-            (ledger.into_connection(), outcome)
+            let posted = ledger.post(batch.0, batch.1).err();
+            if let Some(fault) = posted {
+                expect_by_store(rt, fault == LedgerFault::Store, fault == NO_MEMORY);
+            }
+            (ledger.into_connection(), posted.is_none())
         }
     };
     tell(rt, MAY_NOT_BE);
-    conn.set_step_limit(None);
-    (opened(rt, conn), outcome)
+    (opened(rt, conn), is_posted)
 }
 
-/// Posts what is due once account 8's boarding was voided, under a limit on steps, or else where memory may be refused. Where that
-/// is refused, all is as before, and it is posted without.
-fn void_within<R: Abort + AllocGlobal>(rt: &R, editions: &Editions, limit: Option<u64>) -> Limited {
-    let (ledger, batch) = boardings(rt, editions);
-    let (ledger, outcome) = post_within(rt, ledger, limit, (&batch.0, &batch.1));
-    if outcome != Limited::Posted {
-        let mut ledger = expect_rows(rt, ledger, BOARDINGS);
-        expect_posted(rt, &mut ledger, (&batch.0, &batch.1), Ok(&VOIDED));
-        let _ = expect_rows(rt, ledger, VOIDED_ROWS);
-    }
-    outcome
-}
-
-#[test]
-fn posts_all_or_nothing_under_each_limit(rt: HostRuntime) {
-    let editions = sample(&rt);
-    let mut is_refused = false;
-    let mut outcome = Limited::Closed;
-    for limit in 1..100 {
-        outcome = void_within(&rt, &editions, Some(limit));
-        if outcome == Limited::Posted {
-            break;
-        }
-        is_refused = is_refused || outcome == Limited::Refused;
-    }
-    expect_same(&rt, (is_refused, outcome), (true, Limited::Posted));
-}
-
+// What is due once account 8's boarding was voided is posted. Where that is refused all is as before, and it is posted then.
 #[test]
 fn posts_all_or_nothing_without_memory(rt: HostRuntime) {
-    void_within(&rt, &sample(&rt), None);
+    let (ledger, batch) = boardings(&rt, &sample(&rt));
+    let (ledger, is_posted) = posted_or_not(&rt, ledger, (&batch.0, &batch.1));
+    if !is_posted {
+        let mut ledger = expect_rows(&rt, ledger, BOARDINGS);
+        expect_posted(&rt, &mut ledger, (&batch.0, &batch.1), Ok(&VOIDED));
+        let _ = expect_rows(&rt, ledger, VOIDED_ROWS);
+    }
 }

@@ -9,35 +9,10 @@ use pay_ledger::Ledger;
 use pay_rules::Fares;
 use pay_session::{Done, session};
 use pay_shard::{Desk, LocalDesk};
-use pay_till::Till;
 use sqlite::Alter;
 use std::process::Abort;
 
-/// Answers lines by a desk and a till, and compares the replies.
-pub fn expect_lines<R: Abort + AllocGlobal, D: Desk, T: Till>(
-    rt: &R,
-    desk: &mut D,
-    till: &mut T,
-    lines: &str,
-    answered: u128,
-    replies: &str,
-)
-    ensures { (D.parts desk.new).standing ≡ (D.parts desk.old).standing }
-{
-    let mut reader = lines.as_bytes();
-    let mut writer = Vec::new(rt.alloc());
-    let (_, zone) = sample_in_london(rt);
-    let done = session(&mut reader, &mut writer, &zone, desk, till);
-    let wanted = Done {
-        answered,
-        quit: false,
-        lacked_memory: false,
-    };
-    expect_same(rt, done, Ok(wanted));
-    expect_same(rt, writer.as_slice(), replies.as_bytes());
-}
-
-/// The same over a ledger, by a till that closes into it.
+/// Answers lines by a desk and a till that closes into a ledger, and compares the replies.
 pub fn expect_closed<R: Abort + AllocGlobal, D: Desk, S: Alter>(
     rt: &R,
     desk: &mut D,
@@ -50,7 +25,17 @@ pub fn expect_closed<R: Abort + AllocGlobal, D: Desk, S: Alter>(
 {
     let mut watch = NoWatch;
     let mut till = LedgerTill::new(rt.alloc(), ledger, &mut watch);
-    expect_lines(rt, desk, &mut till, lines, answered, replies);
+    let mut reader = lines.as_bytes();
+    let mut writer = Vec::new(rt.alloc());
+    let (_, zone) = sample_in_london(rt);
+    let done = session(&mut reader, &mut writer, &zone, desk, &mut till);
+    let wanted = Done {
+        answered,
+        quit: false,
+        lacked_memory: false,
+    };
+    expect_same(rt, done, Ok(wanted));
+    expect_same(rt, writer.as_slice(), replies.as_bytes());
 }
 
 /// A desk over one shard without accounts.

@@ -27,41 +27,26 @@ fn changed<R: Abort + AllocGlobal>(rt: &R, sql: &str) -> Connection<MemStore> {
 /// The rows of an empty ledger.
 const EMPTY: &str = "meta farebox 2\n";
 
-/// No table was made, and it is opened without a limit.
+/// No table was made, and it is opened then.
 fn expect_not_made<R: Abort + AllocGlobal, S: Alter + Drop>(rt: &R, mut conn: Connection<S>) {
-    conn.set_step_limit(None);
     let tables = number(&mut conn, "SELECT count(*) FROM sqlite_schema");
     expect_same(rt, tables, Ok(1));
     let _ = expect_rows(rt, opened(rt, conn), EMPTY);
 }
 
-/// Opens a database with a table of another kind under a limit on steps, or else where memory may be refused. Where that is refused no
-/// table is made, and it is opened then.
-fn expect_made<R: Abort + AllocGlobal>(rt: &R, limit: Option<u64>) {
-    let mut conn = Connection::open_in_memory(rt.alloc()).expect(rt, "a database");
-    run(&mut conn, "CREATE TABLE other (x INTEGER)").expect(rt, "a table");
-    conn.set_step_limit(limit);
-    assert!(rt; conn.is_autocommit());
-    tell(rt, MAY_BE_REFUSED);
-    let made = Ledger::open(rt.alloc(), conn);
-    tell(rt, MAY_NOT_BE);
-    if let Err((fault, conn)) = made {
-        let (is_store, is_memory) = (fault == OpenFault::Store, fault == OpenFault::Memory);
-        expect_by_store(rt, is_store, is_memory, limit.is_none());
-        expect_not_made(rt, conn);
-    }
-}
-
-#[test]
-fn makes_all_tables_or_none_under_each_limit(rt: HostRuntime) {
-    for limit in 0..20 {
-        expect_made(&rt, Some(limit));
-    }
-}
-
+// The database has a table of another kind.
 #[test]
 fn makes_all_tables_or_none_without_memory(rt: HostRuntime) {
-    expect_made(&rt, None);
+    let mut conn = Connection::open_in_memory(rt.alloc()).expect(&rt, "a database");
+    run(&mut conn, "CREATE TABLE other (x INTEGER)").expect(&rt, "a table");
+    assert!(rt; conn.is_autocommit());
+    tell(&rt, MAY_BE_REFUSED);
+    let made = Ledger::open(rt.alloc(), conn);
+    tell(&rt, MAY_NOT_BE);
+    if let Err((fault, conn)) = made {
+        expect_by_store(&rt, fault == OpenFault::Store, fault == OpenFault::Memory);
+        expect_not_made(&rt, conn);
+    }
 }
 
 const BAD: LedgerFault = LedgerFault::Refused(PostFault::BadArchive);

@@ -1,7 +1,0 @@
-use Rattle.std.specs.List.{IsDistinct}
-use Rattle.pay_tests.proofs.shards.empty_shard.Goals as goal
-
--- no account has the number of another
-pub new-requires-2-clause-distinct : goal.new-requires-2-clause-distinct
-unfolding IsDistinct
-new-requires-2-clause-distinct g c = rw c.new-none.ensures.items tt
