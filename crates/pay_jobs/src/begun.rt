@@ -5,13 +5,14 @@ use pay_book::Book;
 use pay_journal::Replayed;
 use pay_shard::LocalDesk;
 use pay_tables::Editions;
+use pay_zone::Zone;
 use std::sync::Arc;
 
 /// A session that can be held: its zone, and a desk that has what its journal gives back.
 #[derive(Drop)]
 pub struct Begun {
     /// The zone.
-    pub zone: TimeZone<'static>,
+    pub zone: Zone<'static>,
     /// The desk.
     pub desk: LocalDesk<Book>,
     /// How much of the journal it has.

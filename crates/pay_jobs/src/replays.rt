@@ -23,9 +23,13 @@ use pay_run::{new_desk, replay_more, replayed_lines};
 use pay_shard::{Asked, Command, Journal, LocalDesk};
 use pay_tables::Editions;
 use pay_wire::KnownWriter;
+use pay_zone::Zone;
 use std::alloc::{AllocError, Global};
 use std::collections::BTreeSet;
 use std::sync::Arc;
+
+/// Texts of fewer bytes have few lines, some five thousand.
+const FEW_BYTES: usize = 200_000;
 
 /// What is told of journals.
 #[derive(Clone, Copy)]
@@ -92,14 +96,26 @@ pub fn replayed_texts(
     ensures stopped { IfErr result (IsStoppedAmong zone.now (arc_value editions) (each (λ text. text.items) texts.now) first) }
 {
     let mut desk = new_desk(alloc, editions);
-    let rest = replay_each(&mut desk, zone, texts, first)?;
+    let zone = zone_for(alloc, zone, texts);
+    let rest = replay_each(&mut desk, &zone, texts, first)?;
     Ok((desk, rest))
+}
+
+/// The zone for the instants of these texts, many or few.
+fn zone_for<'a>(alloc: Global, zone: &TimeZone<'a>, texts: &[Vec<u8>]) -> Zone<'a>
+    ensures { result ≡ zone.now }
+{
+    if texts.iter().all(|text| text.len() < FEW_BYTES) {
+        Zone::by_rules(alloc, *zone)
+    } else {
+        Zone::new(alloc, *zone)
+    }
 }
 
 /// Replays one journal over what a desk has. The answer is how many bytes stand after its last newline.
 fn replay_text(
     desk: &mut LocalDesk<Book>,
-    zone: &TimeZone<'_>,
+    zone: &Zone<'_>,
     text: &[u8],
     journal: u64,
 ) -> Result<u64, Fault>
@@ -126,7 +142,7 @@ fn fault_of(journal: u64, fault: ReplayFault) -> Fault
 /// Replays journals, one after the other. The answer is how many bytes stand after their last newlines.
 fn replay_each(
     desk: &mut LocalDesk<Book>,
-    zone: &TimeZone<'_>,
+    zone: &Zone<'_>,
     texts: &[Vec<u8>],
     first: u64,
 ) -> Result<u128, Fault>

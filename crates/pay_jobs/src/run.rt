@@ -30,6 +30,7 @@ use pay_run::{Ran, replayed_desk, run_lines, run_lines_without_ledger};
 use pay_session::{Done, KnownReader};
 use pay_tables::Editions;
 use pay_wire::KnownWriter;
+use pay_zone::Zone;
 use sqlite::Alter;
 use std::alloc::{AllocError, Global};
 use std::sync::Arc;
@@ -41,7 +42,7 @@ pub fn begin(alloc: Global, fares: &str, zone: &str, past: &[u8]) -> Result<Begu
     ensures fails { IfErr result (IsNotBegun (texts fares.now zone.now past.now)) }
 {
     let editions = read_fares(alloc, fares)?;
-    let zone = read_zone(zone)?;
+    let zone = read_clock(alloc, zone)?;
     let begun = replayed_desk(alloc, editions, &zone, past)?;
     let (desk, replayed) = begun;
     Ok(Begun {
@@ -164,6 +165,16 @@ pub fn read_zone(text: &str) -> Result<TimeZone<'static>, Fault>
         Ok(zone) => Ok(zone),
         Err(_) => Err(Fault::BadZone),
     }
+}
+
+/// The same for many instants.
+pub(crate) fn read_clock(alloc: Global, text: &str) -> Result<Zone<'static>, Fault>
+    ensures ok { IfOk result (λ zone. IsPosixZone text.now (plain_zone zone)) }
+    ensures bad { IfErr result (λ fault. fault ≡ Fault.BadZone) }
+    ensures none { OnErr result (read_whole text.now ≡ None) }
+{
+    let zone = read_zone(text)?;
+    Ok(Zone::new(alloc, zone))
 }
 
 /// Whether a service day is over in a zone at an instant, in seconds of the Unix clock: a later one has begun. At an instant that has no

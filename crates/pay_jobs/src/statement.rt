@@ -11,7 +11,7 @@ ghost use Rattle.pay_jobs.specs.Statement.{PageFails, IsPage, StatementWritten, 
 
 use crate::fault::Fault;
 use crate::output::write_text;
-use crate::run::{read_fares, read_zone};
+use crate::run::{read_clock, read_fares};
 use pay_book::Book;
 use pay_rules::Line;
 use pay_run::week_by_lines;
@@ -64,7 +64,7 @@ fn read_page<R: KnownReader>(
 {
     pay_run::laws::all_else_stays();
     let editions = read_fares(alloc, fares)?;
-    let zone = read_zone(zone)?;
+    let zone = read_clock(alloc, zone)?;
     let shared = share(&editions)?;
     let lines = week_by_lines::<Book, R>(alloc, reader, &zone, shared, past, account, day)?;
     let page = page_of(alloc, &editions, lines.as_slice())?;

@@ -10,10 +10,10 @@ ghost use Rattle.pay_journal.specs.Replays.{IsStepBy};
 use crate::limits::MOST_AHEAD;
 use crate::replaying::{Step, is_question, why_ended};
 use arrayvec::ArrayVec;
-use jiff::tz::TimeZone;
 use pay_session::{Asks, asks_of, cut, refusal_of_desk, request_of, said};
 use pay_shard::{Desk, Ticket};
 use pay_wire::{Refusal, SpelledReply};
+use pay_zone::Zone;
 
 /// The numbers of the tickets of what was put and not got, in order.
 type Tickets = ArrayVec<u64, MOST_AHEAD>;
@@ -28,7 +28,7 @@ pub(crate) struct Missed {
 }
 
 /// Hands the command of a line to a desk, if it is a tap or a correction. The answer is its ticket, if the desk took it.
-fn put_line<D: Desk>(line: &[u8], zone: &TimeZone<'_>, desk: &mut D) -> Option<Ticket>
+fn put_line<D: Desk>(line: &[u8], zone: &Zone<'_>, desk: &mut D) -> Option<Ticket>
     ensures put { IfSome result (IsPut D.parts desk.old desk.new (asks_of zone.now (request_of line.now))) }
     ensures none { IfNone result (IsNotPut D.parts desk.old desk.new) }
     ensures transcript { NothingIsLost (D.parts desk.old).transcript (D.parts desk.new).transcript }
@@ -46,7 +46,7 @@ fn put_line<D: Desk>(line: &[u8], zone: &TimeZone<'_>, desk: &mut D) -> Option<T
 /// it took.
 fn put_lines<'a, D: Desk>(
     text: &'a [u8],
-    zone: &TimeZone<'_>,
+    zone: &Zone<'_>,
     desk: &mut D,
     tickets: &mut Tickets,
 ) -> &'a [u8]
@@ -93,7 +93,7 @@ fn first_missed(missed: Option<Missed>, place: usize, why: Option<Refusal>) -> O
 }
 
 /// Hands the first lines of a text to a desk, as many as it takes at a time, and then gets the replies to all of them.
-pub(crate) fn hand_on<'a, D: Desk>(text: &'a [u8], zone: &TimeZone<'_>, desk: &mut D) -> Step<'a>
+pub(crate) fn hand_on<'a, D: Desk>(text: &'a [u8], zone: &Zone<'_>, desk: &mut D) -> Step<'a>
     ensures step { IsStepBy zone.now D.parts desk.old desk.new text.now result.lines result.left.now result.ended }
     ensures fits { result.lines + length result.left.now ≤ length text.now }
     ensures transcript { NothingIsLost (D.parts desk.old).transcript (D.parts desk.new).transcript }

@@ -6,10 +6,10 @@ ghost use Rattle.pay_journal.specs.Replays.{IsReplayed, IsEnded, IsReplayStep, I
 ghost use Rattle.pay_session.specs.Requests.{has_newline, request_of};
 
 use crate::ahead::hand_on;
-use jiff::tz::TimeZone;
 use pay_session::{Asks, asks_of, cut, reply_of, request_of};
 use pay_shard::{Asked, Command, Desk};
 use pay_wire::{Refusal, SpelledReply};
+use pay_zone::Zone;
 use thiserror::Error;
 
 /// What a text of lines came to that were replayed.
@@ -47,11 +47,7 @@ pub(crate) struct Step<'a> {
 /// correction that is answered by prices, as a repeat is: the first that is not ends the replay, and the desk has then taken those before
 /// it, and perhaps that one and fewer than [`MOST_AHEAD`](crate::limits::MOST_AHEAD) after it. A question, a `CLOSE` and a `QUIT` are a
 /// `BadLine` here, and no desk is asked.
-pub fn replay<D: Desk>(
-    text: &[u8],
-    zone: &TimeZone<'_>,
-    desk: &mut D,
-) -> Result<Replayed, ReplayFault>
+pub fn replay<D: Desk>(text: &[u8], zone: &Zone<'_>, desk: &mut D) -> Result<Replayed, ReplayFault>
     ensures replayed { IfOk result (IsReplayed zone.now D.parts desk.old desk.new text.now) }
     ensures ended { IfErr result (IsEnded zone.now D.parts desk.old desk.new text.now) }
     ensures transcript { NothingIsLost (D.parts desk.old).transcript (D.parts desk.new).transcript }
@@ -80,7 +76,7 @@ fn take_some<'a, D: Desk>(
     text: &'a [u8],
     line: &[u8],
     rest: &'a [u8],
-    zone: &TimeZone<'_>,
+    zone: &Zone<'_>,
     desk: &mut D,
 ) -> Step<'a>
     requires parts { text.now ≡ line.now ++ 10 ∷ rest.now }
@@ -122,7 +118,7 @@ fn fault_at(line: u64, why: Refusal) -> ReplayFault
 }
 
 /// Hands the command of a line to a desk. The answer is why the replay ends there, if it does.
-fn replay_line<D: Desk>(line: &[u8], zone: &TimeZone<'_>, desk: &mut D) -> Option<Refusal>
+fn replay_line<D: Desk>(line: &[u8], zone: &Zone<'_>, desk: &mut D) -> Option<Refusal>
     ensures step { IsReplayStep D.parts desk.old desk.new (asks_of zone.now (request_of line.now)) result }
     ensures transcript { NothingIsLost (D.parts desk.old).transcript (D.parts desk.new).transcript }
     ensures same_desk { (D.parts desk.new).standing ≡ (D.parts desk.old).standing }

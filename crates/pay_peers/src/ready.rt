@@ -9,6 +9,7 @@ use pay_office::Lane;
 use pay_serve::{Place, StaffPlace};
 use pay_session::{Port, Role};
 use pay_till::{NoTill, Till};
+use pay_zone::Zone;
 use std::alloc::Global;
 use std::net::Net;
 use std::sync::Wait;
@@ -84,8 +85,9 @@ impl<C: Clock + Drop, A: Aside> Place for Ready<C, A> {
 
     fn serve<R: Wait + Copy>(self, rt: R, alloc: Global, zone: &TimeZone<'_>, lane: Lane) -> Lane {
         pay_serve::laws::lanes_ask();
+        let zone = Zone::new(alloc, *zone);
         let port = Port {
-            zone,
+            zone: &zone,
             role: Role::Taps,
             latest: None,
         };
@@ -106,9 +108,10 @@ impl<C: Clock + Drop, A: Aside> StaffPlace for Control<C, A> {
         till: &mut T,
     ) -> Lane {
         let Control { mut serving, ports } = self;
+        let zone = Zone::new(alloc, *zone);
         serving.begin(ports);
         let mut desk = serving.desk(rt, alloc, lane);
-        serving.serve_all(&rt, Port::open(zone), &mut desk, till);
+        serving.serve_all(&rt, Port::open(&zone), &mut desk, till);
         desk.into_lane()
     }
 }

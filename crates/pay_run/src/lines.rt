@@ -10,7 +10,6 @@ ghost use Rattle.pay_session.specs.Words.{IsBroken, IsLastFill, ShowsNothing};
 ghost use Rattle.pay_run.specs.Past.{HasReplayed};
 ghost use Rattle.pay_run.specs.LineRuns.{LinesEnd, LinesFail, after, before, with_ledger_in, without_ledger};
 
-use jiff::tz::TimeZone;
 use pay_close::{LedgerTill, Watch};
 use pay_journal::{Keeper, KeptDesk};
 use pay_ledger::Ledger;
@@ -20,6 +19,7 @@ use pay_shard::LocalDesk;
 use pay_tables::Editions;
 use pay_till::NoTill;
 use pay_wire::KnownWriter;
+use pay_zone::Zone;
 use sqlite::Alter;
 use std::alloc::Global;
 use std::sync::Arc;
@@ -58,7 +58,7 @@ pub fn run_lines<F: Fares, R: KnownReader, W: KnownWriter, S: Alter, K: Keeper, 
     alloc: Global,
     reader: &mut R,
     writer: &mut W,
-    zone: &TimeZone<'_>,
+    zone: &Zone<'_>,
     desk: LocalDesk<F>,
     keeper: K,
     ledger: &mut Ledger<S>,
@@ -90,7 +90,7 @@ pub fn run_lines<F: Fares, R: KnownReader, W: KnownWriter, S: Alter, K: Keeper, 
 pub fn run_lines_without_ledger<F: Fares, R: KnownReader, W: KnownWriter, K: Keeper>(
     reader: &mut R,
     writer: &mut W,
-    zone: &TimeZone<'_>,
+    zone: &Zone<'_>,
     desk: LocalDesk<F>,
     keeper: K,
 ) -> Ran<F, K>

@@ -6,11 +6,11 @@ ghost use Rattle.pay_run.specs.Machine.{new_machine};
 ghost use Rattle.pay_run.specs.Past.{AreReplayed, HasCommands, IsReplayedAfter, IsNotReplayedAfter, IsReplayOf, IsNotReplayed};
 
 use crate::lines::new_desk;
-use jiff::tz::TimeZone;
 use pay_journal::{ReplayFault, Replayed, replay};
 use pay_rules::Fares;
 use pay_shard::LocalDesk;
 use pay_tables::Editions;
+use pay_zone::Zone;
 use std::alloc::Global;
 use std::sync::Arc;
 
@@ -19,7 +19,7 @@ use std::sync::Arc;
 pub fn replayed_desk<F: Fares>(
     alloc: Global,
     editions: Arc<Editions>,
-    zone: &TimeZone<'_>,
+    zone: &Zone<'_>,
     past: &[u8],
 ) -> Result<(LocalDesk<F>, Replayed), ReplayFault>
     ensures replayed { IfOk result (λ r. IsReplayOf zone.now (arc_value editions) past.now r.0.shard r.1) }
@@ -37,7 +37,7 @@ pub fn replayed_desk<F: Fares>(
 /// Takes the whole lines of one text more, after what a desk has. What was replayed before a line that is not accepted stays.
 pub fn replay_more<F: Fares>(
     desk: &mut LocalDesk<F>,
-    zone: &TimeZone<'_>,
+    zone: &Zone<'_>,
     text: &[u8],
 ) -> Result<Replayed, ReplayFault>
     ensures sized { IfOk result (λ it. it.bytes + length (rest_of text.now) ≡ length text.now) }

@@ -9,7 +9,6 @@ ghost use Rattle.pay_run.specs.Week.{HasInputFault, WeekTold, WeekNotTold, week_
 ghost use Rattle.pay_run.specs.declared.week.WeekFault.TheVariants.{Broken, Memory};
 
 use crate::past::replayed_desk;
-use jiff::tz::TimeZone;
 use pay_day::monday;
 use pay_journal::{KeptDesk, NoKeeper, ReplayFault};
 use pay_rules::{Fares, Lines};
@@ -18,6 +17,7 @@ use pay_shard::Shard;
 use pay_tables::Editions;
 use pay_till::NoTill;
 use pay_wire::Refusal;
+use pay_zone::Zone;
 use std::alloc::{AllocError, Global};
 use std::io;
 use std::sync::Arc;
@@ -91,7 +91,7 @@ fn lines_of<F: Fares>(
 pub fn week_by_lines<F: Fares, R: KnownReader>(
     alloc: Global,
     reader: &mut R,
-    zone: &TimeZone<'_>,
+    zone: &Zone<'_>,
     editions: Arc<Editions>,
     past: &[u8],
     account: u32,

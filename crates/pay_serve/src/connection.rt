@@ -13,6 +13,7 @@ use pay_office::{Lane, LaneDesk};
 use pay_session::{Role, session};
 use pay_shard::Desk;
 use pay_till::NoTill;
+use pay_zone::Zone;
 use std::alloc::{AllocError, Global};
 use std::io::{BufReader, Read};
 use std::net::{Shutdown, TcpListener, TcpStream};
@@ -21,7 +22,7 @@ use std::time::Duration;
 
 /// Answers the lines of a connection over a desk, until it ends or fails. There it closes no day.
 #[tactic(auto, using(crate::proofs::LinesAsked::asked_none))]
-fn answer_lines<D: Desk>(alloc: Global, stream: &TcpStream, zone: &TimeZone<'_>, desk: &mut D)
+fn answer_lines<D: Desk>(alloc: Global, stream: &TcpStream, zone: &Zone<'_>, desk: &mut D)
     ensures same_desk { (D.parts desk.new).standing ≡ (D.parts desk.old).standing }
     ensures asked { AreAskedIn zone.now (D.parts desk.old).taken (D.parts desk.new).taken }
 {
@@ -58,12 +59,7 @@ fn take_rest(mut stream: &TcpStream) {
 
 /// Serves the next connection of a listener over a desk. One that is not to be had counts as served.
 #[tactic(auto, using(crate::proofs::LinesAsked::asked_none))]
-fn serve_connection<D: Desk>(
-    alloc: Global,
-    listener: &TcpListener,
-    zone: &TimeZone<'_>,
-    desk: &mut D,
-)
+fn serve_connection<D: Desk>(alloc: Global, listener: &TcpListener, zone: &Zone<'_>, desk: &mut D)
     ensures same_desk { (D.parts desk.new).standing ≡ (D.parts desk.old).standing }
     ensures asked { AreAskedIn zone.now (D.parts desk.old).taken (D.parts desk.new).taken }
 {
@@ -83,7 +79,7 @@ pub fn serve_connections<D: Desk>(
     alloc: Global,
     listener: &TcpListener,
     sessions: u32,
-    zone: &TimeZone<'_>,
+    zone: &Zone<'_>,
     desk: &mut D,
 )
     ensures same_desk { (D.parts desk.new).standing ≡ (D.parts desk.old).standing }
@@ -100,7 +96,7 @@ pub fn serve_lane<R: Wait + Copy>(
     alloc: Global,
     listener: &TcpListener,
     sessions: u32,
-    zone: &TimeZone<'_>,
+    zone: &Zone<'_>,
     lane: Lane,
 ) -> Lane
     requires { HasShards lane }
@@ -129,7 +125,8 @@ impl Place for Connections {
     }
 
     fn serve<R: Wait + Copy>(self, rt: R, alloc: Global, zone: &TimeZone<'_>, lane: Lane) -> Lane {
-        serve_lane(rt, alloc, &self.listener, self.sessions, zone, lane)
+        let zone = Zone::new(alloc, *zone);
+        serve_lane(rt, alloc, &self.listener, self.sessions, &zone, lane)
     }
 }
 

@@ -10,6 +10,7 @@ use jiff::tz::TimeZone;
 use pay_journal::{ReplayFault, replay};
 use pay_office::{Lane, LaneDesk};
 use pay_shard::Desk;
+use pay_zone::Zone;
 use std::alloc::Global;
 use std::sync::Wait;
 
@@ -27,7 +28,7 @@ fn journal_fault(journal: u64, fault: ReplayFault) -> ServeFault
 /// first that is not ends it.
 pub fn take_again<D: Desk>(
     texts: &[Vec<u8>],
-    zone: &TimeZone<'_>,
+    zone: &Zone<'_>,
     desk: &mut D,
 ) -> Result<(), ServeFault>
     ensures taken { AreTakenAgain zone.now D.parts 0 (each vec_items texts.now) (desk.old, desk.new) result }
@@ -56,6 +57,6 @@ pub fn take_through<R: Wait + Copy>(
     ensures none_hidden { NoneIsHidden result.1 }
 {
     let mut desk = LaneDesk::new(rt, alloc, lane);
-    let taken = take_again(texts, zone, &mut desk);
+    let taken = take_again(texts, &Zone::new(alloc, *zone), &mut desk);
     (taken, desk.into_lane())
 }

@@ -7,11 +7,11 @@ ghost use Rattle.pay_session.specs.Asks.{asks_of, asks_command, asks_tap, asks_f
 ghost use Rattle.pay_session.specs.Requests.{IsAsked};
 
 use crate::request::Request;
-use jiff::tz::TimeZone;
-use pay_day::{StampFault, stamp};
+use pay_day::StampFault;
 use pay_rules::{Credit, Fix, Tap, What};
 use pay_shard::{Asked, Command};
 use pay_wire::{Refusal, SpelledCommand, SpelledFix, SpelledTap, SpelledWhat};
+use pay_zone::Zone;
 
 /// What a request comes to.
 #[derive(Clone, Copy)]
@@ -28,7 +28,7 @@ pub enum Asks {
 
 /// What a request comes to in a zone.
 #[tactic(auto, unfolding(crate::specs::Asks::asks_of))]
-pub fn asks_of(zone: &TimeZone<'_>, request: Request) -> Asks
+pub fn asks_of(zone: &Zone<'_>, request: Request) -> Asks
     requires { IsAsked request }
     ensures value { result ≡ asks_of zone.now request }
     ensures askable { IsAskable result }
@@ -40,7 +40,7 @@ pub fn asks_of(zone: &TimeZone<'_>, request: Request) -> Asks
     }
 }
 
-fn asks_command(zone: &TimeZone<'_>, command: SpelledCommand) -> Asks
+fn asks_command(zone: &Zone<'_>, command: SpelledCommand) -> Asks
     requires { IsSpelled command }
     ensures value { result ≡ asks_command zone.now command }
     ensures askable { IsAskable result }
@@ -65,12 +65,12 @@ fn put(asked: Asked) -> Asks
     Asks::Put(Command::new(asked))
 }
 
-fn asks_tap(zone: &TimeZone<'_>, line: SpelledTap) -> Asks
+fn asks_tap(zone: &Zone<'_>, line: SpelledTap) -> Asks
     requires { IsSpelledTap line }
     ensures value { result ≡ asks_tap zone.now line }
     ensures askable { IsAskable result }
 {
-    let stamp = match stamp(zone, line.utc) {
+    let stamp = match zone.stamp(line.utc) {
         Ok(stamp) => stamp,
         Err(StampFault::OutOfTime) => return Asks::No(Refusal::OutOfTime),
         Err(StampFault::Memory) => return Asks::No(Refusal::Memory),
@@ -86,12 +86,12 @@ fn asks_tap(zone: &TimeZone<'_>, line: SpelledTap) -> Asks
 }
 
 /// What a line's correction does, with where the instant of a Fill falls.
-fn what_of(zone: &TimeZone<'_>, spelled: SpelledWhat) -> Result<What, Refusal>
+fn what_of(zone: &Zone<'_>, spelled: SpelledWhat) -> Result<What, Refusal>
     ensures { result ≡ what_of_spelled zone.now spelled }
 {
     match spelled {
         SpelledWhat::Void(reader, seq) => Ok(What::Void(reader, seq)),
-        SpelledWhat::Fill { utc, place, kind } => match stamp(zone, utc) {
+        SpelledWhat::Fill { utc, place, kind } => match zone.stamp(utc) {
             Ok(stamp) => Ok(What::Fill(stamp, place, kind)),
             Err(StampFault::OutOfTime) => Err(Refusal::OutOfTime),
             Err(StampFault::Memory) => Err(Refusal::Memory),
@@ -104,7 +104,7 @@ fn what_of(zone: &TimeZone<'_>, spelled: SpelledWhat) -> Result<What, Refusal>
     }
 }
 
-fn asks_fix(zone: &TimeZone<'_>, line: SpelledFix) -> Asks
+fn asks_fix(zone: &Zone<'_>, line: SpelledFix) -> Asks
     requires { IsSpelledFix line }
     ensures value { result ≡ asks_fix zone.now line }
     ensures askable { IsAskable result }

@@ -6,8 +6,8 @@ ghost use Rattle.pay_session.specs.Requests.{IsAsked};
 
 use crate::asks::{Asks, asks_of};
 use crate::request::Request;
-use jiff::tz::TimeZone;
 use pay_wire::{Refusal, SpelledCommand};
+use pay_zone::Zone;
 
 /// Who may ask at a port.
 #[derive(Clone, Copy, Debug, PartialEq, Eq)]
@@ -22,14 +22,14 @@ pub enum Role {
 /// in seconds of the Unix clock, if there is one.
 #[derive(Clone, Copy)]
 pub struct Port<'a> {
-    pub zone: &'a TimeZone<'a>,
+    pub zone: &'a Zone<'a>,
     pub role: Role,
     pub latest: Option<u64>,
 }
 
 impl<'a> Port<'a> {
     /// A port of a zone where all may be asked for.
-    pub fn open(zone: &'a TimeZone<'a>) -> Port<'a>
+    pub fn open(zone: &'a Zone<'a>) -> Port<'a>
         ensures { IsOpen zone.now result }
     {
         Port {

@@ -12,10 +12,10 @@ use crate::port::Port;
 use crate::progress::Progress;
 use crate::service::Service;
 use crate::stop::SessionFault;
-use jiff::tz::TimeZone;
 use pay_shard::Desk;
 use pay_till::Till;
 use pay_wire::KnownWriter;
+use pay_zone::Zone;
 
 /// How a session ended by itself.
 #[derive(Clone, Copy, Debug, PartialEq, Eq)]
@@ -35,7 +35,7 @@ pub struct Done {
 pub fn session<R: KnownReader, W: KnownWriter, D: Desk, T: Till>(
     reader: &mut R,
     writer: &mut W,
-    zone: &TimeZone<'_>,
+    zone: &Zone<'_>,
     desk: &mut D,
     till: &mut T,
 ) -> Result<Done, SessionFault>

@@ -6,6 +6,7 @@ use pay_day::Moment;
 use pay_editions::read_editions;
 use pay_rules::{Kind, Tap, Touch};
 use pay_tables::Editions;
+use pay_zone::Zone;
 use std::fmt::Debug;
 use std::process::Abort;
 use std::sync::Arc;
@@ -49,11 +50,16 @@ pub fn sample<R: Abort + AllocGlobal>(rt: &R) -> Editions {
     read_editions(rt.alloc(), SAMPLE_FARES).expect(rt, "the sample")
 }
 
-/// The same for several, and the clocks of London.
-pub fn sample_in_london<'a, R: Abort + AllocGlobal>(rt: &R) -> (Arc<Editions>, TimeZone<'a>) {
-    let editions = Arc::new(rt.alloc(), sample(rt)).expect(rt, "memory");
+/// The zone of London.
+pub fn london<R: Abort + AllocGlobal>(rt: &R) -> Zone<'static> {
     let zone = TimeZone::posix("GMT0BST,M3.5.0/1,M10.5.0").expect(rt, "a rule");
-    (editions, zone)
+    Zone::new(rt.alloc(), zone)
+}
+
+/// The same for several, and the zone of London.
+pub fn sample_in_london<R: Abort + AllocGlobal>(rt: &R) -> (Arc<Editions>, Zone<'static>) {
+    let editions = Arc::new(rt.alloc(), sample(rt)).expect(rt, "memory");
+    (editions, london(rt))
 }
 
 /// A tap of account 7 by reader 1, at a second of the Monday.

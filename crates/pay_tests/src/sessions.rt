@@ -2,9 +2,8 @@
 //! other ways, is shown by `tests/program.py`.
 
 use crate::desks::empty_desk;
-use crate::given::{expect_same, sample};
+use crate::given::{expect_same, london, sample};
 use crate::streams::Flushed;
-use jiff::tz::TimeZone;
 use pay_session::{Done, SessionFault, session};
 use pay_till::NoTill;
 use std::process::Abort;
@@ -26,7 +25,7 @@ fn serve<H: Abort + AllocGlobal>(
     mut input: &[u8],
     writer: &mut Flushed,
 ) -> Result<Done, SessionFault> {
-    let zone = TimeZone::posix("GMT0BST,M3.5.0/1,M10.5.0").expect(rt, "a rule");
+    let zone = london(rt);
     let mut desk = empty_desk(rt, sample(rt));
     session(&mut input, writer, &zone, &mut desk, &mut NoTill)
 }

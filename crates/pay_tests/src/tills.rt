@@ -6,9 +6,8 @@ ghost use Rattle.pay_wire.specs.declared.refusal.Refusal.TheVariants as refusal;
 
 use crate::accounts::expect_price;
 use crate::desks::empty_desk;
-use crate::given::{MONDAY, expect_same, sample, tap_at};
+use crate::given::{MONDAY, expect_same, london, sample, tap_at};
 use crate::streams::Flushed;
-use jiff::tz::TimeZone;
 use pay_account::Account;
 use pay_book::Book;
 use pay_money::limits::OPERATORS;
@@ -200,7 +199,7 @@ fn says_what_a_desk_and_a_till_say(rt: HostRuntime) {
     let editions = sample(&rt);
     let mut till = till(&rt, &editions);
     let mut desk = desk(&rt, editions);
-    let zone = TimeZone::posix("GMT0BST,M3.5.0/1,M10.5.0").expect(&rt, "a rule");
+    let zone = london(&rt);
     let mut writer = Flushed::new(rt.alloc(), usize::MAX);
     let mut lines = LINES.as_bytes();
     let result = session(&mut lines, &mut writer, &zone, &mut desk, &mut till);
