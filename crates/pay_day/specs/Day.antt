@@ -29,9 +29,13 @@ pub record IsStamp (s : Stamp) : Type 0 where
   pub day : IsDay s.day
   pub second : s.second < SECONDS_PER_DAY
 
+-- how far the zone's clock is ahead of UTC at an instant, in seconds
+abbrev pub offset_of : TimeZone → ℕ → ℤ
+offset_of zone utc = offset_at (plain_zone zone) (nanos_of_seconds (pos utc))
+
 -- seconds from 1970-01-01 00:00:00 to what the zone's clock shows at the instant
 unfoldable pub local_seconds : TimeZone → ℕ → ℤ
-local_seconds zone utc = pos utc +ℤ offset_at (plain_zone zone) (nanos_of_seconds (pos utc))
+local_seconds zone utc = pos utc +ℤ offset_of zone utc
 
 -- the date that the zone's calendar shows, counted from 1970-01-01
 unfoldable pub local_date : TimeZone → ℕ → ℤ

@@ -8,5 +8,5 @@ mod service;
 mod week;
 
 pub use moment::Moment;
-pub use service::{StampFault, stamp};
+pub use service::{StampFault, stamp, stamp_at};
 pub use week::{day_of_week, is_in_week_of, monday};

@@ -6,6 +6,7 @@
 #![tactic(auto)]
 
 mod addition;
+mod boxed_quote;
 mod credit;
 mod fares;
 mod fix;
@@ -24,6 +25,7 @@ mod tap;
 mod tap_number;
 
 pub use addition::{Addition, AdditionFault};
+pub use boxed_quote::BoxedQuote;
 pub use credit::Credit;
 pub use fares::{Fares, FixFault, TapFault};
 pub use fix::{Fix, What};

@@ -1,6 +1,5 @@
 -- The edition of a day: what it shares with the others, and that no other began between its first day and that day.
 use Rattle.std.proofs.Common.{◌≡◌, ℕ, ◌≤◌, ◌<◌, Bool, true, false, cond, List, [], ◌∷◌, All, Option, Some, None, IfSome, refl, arith, leb-true, le-leb}
-use Rattle.std.specs.Prelude.{nat_le}
 use Rattle.std.specs.List.{AllByRecursion, find}
 use Rattle.std.proofs.lemmas.List.Elements.{All-head, All-tail, All-from_recursion}
 use Rattle.pay_day.specs.Words.{IsDay}

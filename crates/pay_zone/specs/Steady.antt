@@ -1,12 +1,9 @@
 -- Stretches of time in which a zone keeps its offset.
 use Rattle.std.specs.Prelude.{◌≡◌, ◌<◌, ◌≤◌, ℕ, ℤ, pos}
-use Rattle.jiff.specs.Words.{plain_zone, nanos_of_seconds, offset_at}
+use Rattle.jiff.specs.Words.{nanos_of_seconds}
 use Rattle.jiff_tz.specs.Year.{year_of_nanos}
 use Rattle.jiff.specs.declared.tz.timezone.TimeZone.{TimeZone}
-
--- how far the zone's clock is ahead of UTC at an instant, in seconds
-abbrev pub offset_of : TimeZone → ℕ → ℤ
-offset_of zone utc = offset_at (plain_zone zone) (nanos_of_seconds (pos utc))
+use Rattle.pay_day.specs.Words.{offset_of}
 
 -- from one instant on, until another, the zone's clock is so far ahead of UTC
 abbrev pub IsSteady : TimeZone → ℕ → ℕ → ℤ → Type 0

@@ -1,5 +1,5 @@
 //! Stretches of time in which a zone keeps its offset.
-ghost use Rattle.std.specs.Prelude.{◌≡◌, ◌<◌, ◌≤◌, ◌^◌, IfSome, OnErr};
+ghost use Rattle.std.specs.Prelude.{◌≡◌, ◌<◌, ◌≤◌, ◌^◌, ◌↔◌, IsTrue, IfSome, OnErr};
 ghost use Rattle.pay_day.specs.declared.limits.TheConstants.{LAST_INSTANT};
 ghost use Rattle.pay_zone.specs.Steady.{IsKeptInYear, IsSteady};
 
@@ -14,6 +14,15 @@ pub(crate) struct Stretch {
     pub(crate) from: u64,
     pub(crate) until: u64,
     pub(crate) offset: Offset,
+}
+
+impl Stretch {
+    /// Whether an instant is of it.
+    pub(crate) fn has(&self, utc: u64) -> bool
+        ensures { IsTrue result ↔ (self.now.from ≤ utc) × (utc < self.now.until) }
+    {
+        self.from <= utc && utc < self.until
+    }
 }
 
 /// The instant of the zone's first change after this one, in seconds of the Unix clock, if the zone is by a rule that has one.

@@ -1,13 +1,12 @@
-ghost use Rattle.std.specs.Prelude.{◌≡◌, ◌↔◌, ◌+◌, ◌+ℤ◌, ◌≤◌, pos, All, IsOk, IfOk, IfErr, IfSome};
-ghost use Rattle.jiff.specs.declared.tz.timezone.TimeZone.{TimeZone};
-ghost use Rattle.pay_day.specs.Day.{IsInstant, local_seconds, stamp_of};
-ghost use Rattle.pay_day.specs.declared.limits.TheConstants.{FIRST_INSTANT, LAST_INSTANT, MOST_OFFSET};
-ghost use Rattle.pay_zone.specs.Steady.{IsSteady, offset_of};
+ghost use Rattle.std.specs.Prelude.{◌≡◌, ◌↔◌, ◌≤◌, All, IsOk, IfOk, IfErr, IfSome};
+ghost use Rattle.pay_day.specs.Words.{IsInstant, offset_of, stamp_of};
+ghost use Rattle.pay_day.specs.declared.limits.TheConstants.{FIRST_INSTANT};
+ghost use Rattle.pay_zone.specs.Steady.{IsSteady};
 
 use crate::steady::{Stretch, stretch_from};
 use jiff::tz::{Offset, TimeZone};
-use pay_day::limits::{FIRST_INSTANT, LAST_INSTANT, SECONDS_PER_DAY, SERVICE_DAY_START};
-use pay_day::{Moment, StampFault, stamp};
+use pay_day::limits::{FIRST_INSTANT, LAST_INSTANT};
+use pay_day::{Moment, StampFault, stamp, stamp_at};
 use std::alloc::Global;
 use std::marker::Model;
 
@@ -54,37 +53,6 @@ fn stretches_of(alloc: Global, zone: &TimeZone<'_>) -> Vec<Stretch>
     stretches
 }
 
-/// Seconds from 1970-01-01 00:00:00 to what a clock so far from UTC shows.
-fn local_clock(utc: u64, offset: Offset) -> u64
-    requires { IsInstant utc }
-    ensures value { pos result ≡ pos utc +ℤ offset.seconds }
-    ensures not_far_before { FIRST_INSTANT ≤ result + MOST_OFFSET }
-    ensures not_far_after { result ≤ LAST_INSTANT + MOST_OFFSET }
-{
-    (utc as i64 + offset.seconds() as i64) as u64
-}
-
-/// An instant with its service day and its local second, by what the zone's clock shows.
-#[tactic(auto, unfolding(pay_day::specs::Day::service_day, pay_day::specs::Day::local_date, pay_day::specs::Day::local_second))]
-fn moment_of(utc: u64, local: u64) -> Moment
-    requires instant { IsInstant utc }
-    requires not_far_before { FIRST_INSTANT ≤ local + MOST_OFFSET }
-    requires not_far_after { local ≤ LAST_INSTANT + MOST_OFFSET }
-    ensures { (zone : TimeZone) → pos local ≡ local_seconds zone utc → result ≡ stamp_of zone utc }
-{
-    let date = local / u64::from(SECONDS_PER_DAY);
-    let second = local % u64::from(SECONDS_PER_DAY);
-    let day = if second < u64::from(SERVICE_DAY_START) {
-        date - 1
-    } else {
-        date
-    };
-    match Moment::from_parts(utc, day as u32, second as u32) {
-        Some(moment) => moment,
-        None => unreachable!(),
-    }
-}
-
 impl<'a> Zone<'a> {
     /// The zone, for many instants: its stretches are found first, which takes as long as some thousands of instants by its rules. Where
     /// memory is refused, fewer are kept.
@@ -107,19 +75,27 @@ impl<'a> Zone<'a> {
         }
     }
 
-    /// The offset at an instant, if a stretch has it.
+    /// Where the stretch of an instant would stand if all were of one length.
+    fn guess(&self, utc: u64) -> usize
+        requires { FIRST_INSTANT ≤ utc }
+    {
+        let count = self.stretches.len() as u64;
+        let part = (utc - FIRST_INSTANT).saturating_mul(count);
+        (part / (LAST_INSTANT + 1 - FIRST_INSTANT)) as usize
+    }
+
+    /// The offset at an instant, if the stretch has it that is sought first, or one beside it.
     fn offset(&self, utc: u64) -> Option<Offset>
+        requires { FIRST_INSTANT ≤ utc }
         ensures { IfSome result (λ o. offset_of self.now utc ≡ o.seconds) }
     {
-        let place = self
-            .stretches
-            .partition_point(|stretch| stretch.until <= utc);
-        let stretch = self.stretches.get(place)?;
-        if stretch.from <= utc && utc < stretch.until {
-            Some(stretch.offset)
-        } else {
-            None
+        let guess = self.guess(utc);
+        for place in guess.saturating_sub(1)..guess.saturating_add(2) {
+            if let Some(stretch) = self.stretches.get(place) && stretch.has(utc) {
+                return Some(stretch.offset);
+            }
         }
+        None
     }
 
     /// The instant with its service day and its local second in the zone, as [`stamp`] gives it.
@@ -132,7 +108,7 @@ impl<'a> Zone<'a> {
             return Err(StampFault::OutOfTime);
         }
         match self.offset(utc) {
-            Some(offset) => Ok(moment_of(utc, local_clock(utc, offset))),
+            Some(offset) => Ok(stamp_at(utc, offset)),
             None => stamp(&self.zone, utc),
         }
     }
