@@ -6,3 +6,4 @@ pub mod Codes
 pub mod EditionCodes
 pub mod Parts
 pub mod Words
+pub mod Laid

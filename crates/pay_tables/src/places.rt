@@ -1,5 +1,6 @@
-ghost use Rattle.std.specs.Prelude.{◌≡◌, OnErr, OnOk};
+ghost use Rattle.std.specs.Prelude.{◌≡◌, OnErr, OnOk, slice_get};
 ghost use Rattle.std.specs.FinMap as map;
+ghost use Rattle.pay_tables.specs.Laid.{IsLaid};
 
 use crate::place::Place;
 use std::alloc::{AllocError, Global};
@@ -10,6 +11,8 @@ use std::marker::Model;
 #[derive(Drop)]
 pub struct Places {
     numbers: BTreeMap<u16, Place>,
+    // What stands at each number from 0 on, as far as it is laid out.
+    laid: Vec<Option<Place>>,
 }
 
 impl Model for Places {
@@ -18,12 +21,35 @@ impl Model for Places {
     ghost use Rattle.std.specs.FinMap as map;
     ghost use Rattle.pay_tables.specs.declared.place.Place.{Place};
     ghost use Rattle.pay_tables.specs.Codes.{place_code};
+    ghost use Rattle.pay_tables.specs.Laid.{IsLaid};
 
     ghost Value = { map.FinMap nat_cmp Place };
 
     ghost coded = { map.code coded_ℕ place_code };
 
     ghost view = { λ p. map.from_entries p.numbers.entries };
+
+    ghost invariant = { λ p. IsLaid p.laid.items p.numbers.entries };
+}
+
+/// What stands at each number from 0 through the last one, as far as there is memory for it.
+fn laid_out(alloc: Global, numbers: &BTreeMap<u16, Place>, last: u16) -> Vec<Option<Place>>
+    ensures { IsLaid result.items numbers.now.entries }
+{
+    let mut laid = Vec::new(alloc);
+    for number in 0..=last {
+        if laid.push(numbers.get(&number).copied()).is_err() {
+            return laid;
+        }
+    }
+    laid
+}
+
+/// What stands at a number, if it is laid out.
+fn laid_at(laid: &[Option<Place>], number: u16) -> Option<Option<Place>>
+    ensures { result ≡ slice_get laid.now number }
+{
+    laid.get(usize::from(number)).copied()
 }
 
 impl Places {
@@ -33,6 +59,7 @@ impl Places {
     {
         Places {
             numbers: BTreeMap::new(alloc),
+            laid: Vec::new(alloc),
         }
     }
 
@@ -47,7 +74,10 @@ impl Places {
     pub fn get(&self, number: u16) -> Option<Place>
         ensures { result ≡ map.get self.now number }
     {
-        self.numbers.get(&number).copied()
+        match laid_at(&self.laid, number) {
+            Some(found) => found,
+            None => self.numbers.get(&number).copied(),
+        }
     }
 
     /// Whether a place stands at a number.
@@ -62,7 +92,17 @@ impl Places {
         ensures ok { OnOk result (self.new ≡ map.insert self.old number place) }
         ensures err { OnErr result (self.new ≡ self.old) }
     {
+        self.laid.clear();
         self.numbers.insert(number, place)?;
         Ok(())
+    }
+
+    /// Lays the places out by their numbers, so that each is found in one step. Where memory is refused, some take more.
+    pub(crate) fn lay_out(&mut self, alloc: Global)
+        ensures { self.new ≡ self.old }
+    {
+        if let Some((last, _)) = self.numbers.last_key_value() {
+            self.laid = laid_out(alloc, &self.numbers, *last);
+        }
     }
 }

@@ -53,10 +53,12 @@ impl Tables {
         requires { IsFareTables (tables_of parts) }
         ensures { IfOk result (λ tables. tables ≡ tables_of parts) }
     {
+        let mut places = parts.places;
+        places.lay_out(alloc);
         let network = Network {
             zones: parts.zones,
             holidays: parts.holidays,
-            places: parts.places,
+            places,
             interchanges: parts.interchanges,
         };
         Ok(Tables {

@@ -91,7 +91,9 @@ impl<'a> Zone<'a> {
     {
         let guess = self.guess(utc);
         for place in guess.saturating_sub(1)..guess.saturating_add(2) {
-            if let Some(stretch) = self.stretches.get(place) && stretch.has(utc) {
+            if let Some(stretch) = self.stretches.get(place)
+                && stretch.has(utc)
+            {
                 return Some(stretch.offset);
             }
         }
