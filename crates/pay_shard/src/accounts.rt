@@ -17,7 +17,7 @@ ghost use Rattle.pay_shard.specs.Held.{ArePlaces, AreNumbersOf, state_of};
 
 use crate::batch::Batch;
 use crate::selection::is_quoted;
-use pay_rules::{Fares, Fix, FixFault, Priced, Quote, Shown, Tap, TapFault};
+use pay_rules::{BoxedQuote, Fares, Fix, FixFault, Priced, Quote, Shown, Tap, TapFault};
 use pay_tables::Editions;
 use std::alloc::{AllocError, AllocFailed, Global};
 use std::collections::HashMap;
@@ -228,7 +228,7 @@ impl<F: Fares> Accounts<F> {
     }
 
     /// What an account owes of the week of a service day, through that day. One that has accepted nothing owes nothing.
-    pub fn quote(&self, account: u32, through: u32) -> Result<Quote, AllocError>
+    fn quote(&self, account: u32, through: u32) -> Result<Quote, AllocError>
         requires numbered { 1 ≤ account }
         requires is_day { IsDay through }
         ensures { IfOk result (λ it. it ≡ quote self.now.editions account (accepted_of self.now.state account) through) }
@@ -237,6 +237,15 @@ impl<F: Fares> Accounts<F> {
             Some(held) => held.quote(&self.editions, through),
             None => F::new(self.alloc, account).quote(&self.editions, through),
         }
+    }
+
+    /// The same in memory of its own.
+    pub fn boxed_quote(&self, account: u32, through: u32) -> Result<BoxedQuote, AllocError>
+        requires numbered { 1 ≤ account }
+        requires is_day { IsDay through }
+        ensures { IfOk result (λ it. it ≡ quote self.now.editions account (accepted_of self.now.state account) through) }
+    {
+        BoxedQuote::new(self.alloc, self.quote(account, through)?)
     }
 
     /// Quotes an account in a batch, if it is the shard's and is quoted.

@@ -18,7 +18,7 @@ impl<F: Fares> Accounts<F> {
         match asked {
             Asked::Tap(tap) => self.answer_tap(tap),
             Asked::Fix(fix) => self.answer_fix(fix),
-            Asked::Due { account, day } => match self.quote(account, day) {
+            Asked::Due { account, day } => match self.boxed_quote(account, day) {
                 Ok(quote) => Reply::Due(quote),
                 Err(_) => Reply::Memory,
             },

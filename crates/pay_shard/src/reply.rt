@@ -1,7 +1,7 @@
 use crate::batch::Batch;
 use crate::command::Command;
 use crate::refusal::ShardRefusal;
-use pay_rules::{FixFault, Priced, Quote, Shown, TapFault};
+use pay_rules::{BoxedQuote, FixFault, Priced, Shown, TapFault};
 
 /// What is replied to a command.
 #[derive(Drop)]
@@ -11,7 +11,7 @@ pub enum Reply {
     /// To a tap or a correction that is refused.
     No(ShardRefusal),
     /// What an account owes.
-    Due(Quote),
+    Due(BoxedQuote),
     /// A service day of an account.
     Shown(Shown),
     /// What the accounts of a shard owe.

@@ -7,7 +7,7 @@ use crate::refusal::Refusal;
 use arrayvec::ArrayVec;
 use itoa::{Buffer, Integer};
 use pay_money::limits::OPERATORS;
-use pay_rules::{Line, Posting, Postings, Priced, Quote, Shown};
+use pay_rules::{BoxedQuote, Line, Posting, Postings, Priced, Quote, Shown};
 
 /// No line of a reply is longer, its newline among its bytes.
 pub const REPLY_BYTES: usize = 514;
@@ -38,7 +38,7 @@ pub enum SpelledReply {
     /// The journeys of a service day.
     Shown(Shown),
     /// What an account owes for a week through one of its days.
-    Due(Quote),
+    Due(BoxedQuote),
     /// What a close posted.
     Closed(Closed),
     /// The line was refused.
@@ -85,7 +85,7 @@ pub(crate) fn render_main_line(line: &mut SpelledLine, reply: &SpelledReply)
     match reply {
         SpelledReply::Priced(priced) => render_priced(line, priced),
         SpelledReply::Shown(shown) => render_shown(line, shown),
-        SpelledReply::Due(quote) => render_due(line, quote),
+        SpelledReply::Due(quote) => render_due(line, quote.quote()),
         SpelledReply::Closed(closed) => render_closed(line, closed),
         SpelledReply::No(refusal) => render_refusal(line, *refusal),
         SpelledReply::Bye => begin(line, b"BYE\n"),
