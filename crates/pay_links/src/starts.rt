@@ -1,36 +1,46 @@
-ghost use Rattle.std.specs.Prelude.{◌≡◌};
+ghost use Rattle.std.specs.Prelude.{◌≡◌, Some, is_some};
 ghost use Rattle.pay_links.specs.Starts.{leg_between, are_linked, starts_at};
 
 use crate::links::is_linked;
 use pay_pairs::is_leg;
 use pay_rules::{Leg, Touch};
-use pay_tables::{Editions, Tables};
+use pay_tables::Editions;
 
-/// The leg of a tap and the next one, where there are both and they are one.
-fn leg_between(editions: &Editions, tap: &Option<Touch>, next: &Option<Touch>) -> Option<Leg>
-    ensures { result ≡ leg_between editions.now tap.now next.now }
+/// Whether a tap and the one before it are a leg, where there is one.
+fn ends_leg(editions: &Editions, nearer: &Option<Touch>, tap: &Touch) -> bool
+    ensures { result ≡ is_some (leg_between editions.now nearer.now (Some tap.now)) }
 {
-    let (Some(entry), Some(exit)) = (tap, next) else {
-        return None;
-    };
-    if is_leg(editions, entry, exit) {
-        Some(Leg {
-            entry: *entry,
-            exit: *exit,
-        })
-    } else {
-        None
+    match nearer {
+        Some(entry) => is_leg(editions, entry, tap),
+        None => false,
     }
 }
 
-/// Whether there are a leg and one right after it, and the one is linked with the other.
-fn are_linked(tables: &Tables, leg: &Option<Leg>, next: &Option<Leg>) -> bool
-    ensures { result ≡ are_linked tables.now leg.now next.now }
+/// Whether a tap and the next one are a leg with which the leg of the two taps before it is linked.
+fn goes_on(
+    editions: &Editions,
+    farther: &Option<Touch>,
+    nearer: &Option<Touch>,
+    tap: &Touch,
+    next: &Option<Touch>,
+) -> bool
+    ensures { result ≡ are_linked editions.now.own (leg_between editions.now farther.now nearer.now) (leg_between editions.now (Some tap.now) next.now) }
 {
-    match (leg, next) {
-        (Some(leg), Some(next)) => is_linked(tables, leg, next),
-        _ => false,
+    let (Some(farther), Some(nearer), Some(next)) = (farther, nearer, next) else {
+        return false;
+    };
+    if !is_leg(editions, tap, next) || !is_leg(editions, farther, nearer) {
+        return false;
     }
+    let before = Leg {
+        entry: *farther,
+        exit: *nearer,
+    };
+    let after = Leg {
+        entry: *tap,
+        exit: *next,
+    };
+    is_linked(editions.own(), &before, &after)
 }
 
 /// Whether a journey starts at a rail tap, by the two taps before it, the farther first, and the one
@@ -47,11 +57,5 @@ pub fn starts_at(
 ) -> bool
     ensures { result ≡ starts_at editions.now farther.now nearer.now tap.now next.now }
 {
-    let here = Some(*tap);
-    if leg_between(editions, nearer, &here).is_some() {
-        return false;
-    }
-    let before = leg_between(editions, farther, nearer);
-    let after = leg_between(editions, &here, next);
-    !are_linked(editions.own(), &before, &after)
+    !ends_leg(editions, nearer, tap) && !goes_on(editions, farther, nearer, tap, next)
 }

@@ -3,6 +3,7 @@ use Rattle.std.specs.Prelude.{◌≡◌, ℕ, ◌<◌, ◌≤◌, T, Bool, List,
 use Rattle.std.specs.FinMap.{from_entries, is_sorted, len, insert, values}
 use Rattle.std.specs.List.{insert as insert_at}
 use Rattle.std.specs.List.Sorted.{IsBinarySearchResult}
+use Rattle.pay_rules.specs.declared.addition.Addition.{Addition}
 use Rattle.pay_rules.specs.declared.addition.Addition.TheVariants.{Added, Repeat}
 use Rattle.pay_rules.specs.declared.addition.AdditionFault.{AdditionFault}
 use Rattle.pay_rules.specs.Numbers.{ByNumber, number_cmp, judged}
@@ -28,6 +29,11 @@ pub record IsSound {X : Type 0} (number : X → ℕ × ℕ) (most : ℕ) (list :
 abbrev pub IsSought : {X : Type 0} → (X → ℕ × ℕ) → ℕ × ℕ → List X → Result (ℕ × X) ℕ → Type 0
 IsSought number n list (Ok there) = IsBinarySearchResult (λ x. number_cmp (number x) n) list (Ok there.0) × (there.0 < length list) × (slice_get list there.0 ≡ Some there.1)
 IsSought number n list (Err at) = IsBinarySearchResult (λ x. number_cmp (number x) n) list (Err at) × (at ≤ length list)
+
+-- what comes of one for which there is a place, or none
+abbrev pub addition_at : Option ℕ → Addition
+addition_at (Some at) = Added
+addition_at None = Repeat
 
 -- where a further one is to stand: put in there, the list is that of the set with it
 pub record IsPlace {X : Type 0} (same : X → X → Bool) (number : X → ℕ × ℕ) (most at : ℕ) (set : ByNumber X) (x : X) : Type 0 where

@@ -1,8 +1,8 @@
-ghost use Rattle.std.specs.Prelude.{◌≡◌, ◌^◌, ◌≤◌, ◌<◌, ◌↔◌, length, take, drop, IsTrue, IfOk, IfSome};
+ghost use Rattle.std.specs.Prelude.{◌≡◌, ◌^◌, ◌≤◌, ◌<◌, ◌↔◌, length, take, drop, IsTrue, IfOk, IfSome, OnOk, OnErr};
 ghost use Rattle.std.specs.FinMap as map;
 ghost use Rattle.std.specs.Ordering.{is_lt};
-ghost use Rattle.pay_numbered.specs.Sound.{IsRising, IsSought, IsPlaceFor};
-ghost use Rattle.pay_rules.specs.Numbers.{IsNumbered, number_cmp, judged, IsJudged, set_after};
+ghost use Rattle.pay_numbered.specs.Sound.{IsRising, IsSought, IsPlace, IsPlaceFor};
+ghost use Rattle.pay_rules.specs.Numbers.{IsNumbered, number_cmp, IsJudged, set_after};
 
 use crate::fronted_list::FrontedList;
 use pay_blocks::ComesAfter;
@@ -141,8 +141,8 @@ impl<T: Numbered + MadeWith<Global>, const MOST: usize, const INLINE: usize> Num
         }
     }
 
-    /// Where a further one is to be inserted, or `None` for a repeat.
-    fn place_for(&self, item: &T) -> Result<Option<usize>, AdditionFault>
+    /// Where a further one is to be put in, or `None` for a repeat, where memory suffices.
+    pub fn place_for(&self, item: &T) -> Result<Option<usize>, AdditionFault>
         ensures { IsPlaceFor T.same T.number MOST result self.now item.now }
     {
         match sought(&self.items, item.number()) {
@@ -153,14 +153,15 @@ impl<T: Numbered + MadeWith<Global>, const MOST: usize, const INLINE: usize> Num
         }
     }
 
-    /// The result of `add` where memory suffices. It takes none.
-    pub fn judge(&self, item: &T) -> Result<Addition, AdditionFault>
-        ensures { result ≡ judged T.same T.number MOST self.now item.now }
+    /// Puts in a further one at its place. An `Err` is out of memory, and then all is as before.
+    pub fn put_at(&mut self, place: usize, item: T) -> Result<(), AllocError>
+        requires { IsPlace T.same T.number MOST place self.old item }
+        ensures ok { OnOk result (self.new ≡ map.insert self.old (T.number item) item) }
+        ensures err { OnErr result (self.new ≡ self.old) }
+        ensures numbered { IsNumbered T.number MOST self.new }
     {
-        match self.place_for(item)? {
-            Some(_) => Ok(Addition::Added),
-            None => Ok(Addition::Repeat),
-        }
+        self.items.insert(place, item)?;
+        Ok(())
     }
 
     /// Adds one: a repeat changes nothing, and so does a refusal. Other content at a number that is
