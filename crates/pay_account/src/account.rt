@@ -1,7 +1,8 @@
 ghost use Rattle.std.specs.Prelude.{◌≡◌, ◌+◌, ◌≤◌, true, Ok, Err, IfOk, IfErr, OnOk, OnErr};
 ghost use Rattle.pay_rules.specs.declared.addition.Addition.TheVariants as Addition;
 ghost use Rattle.pay_rules.specs.declared.limits.TheConstants.{MOST_TAPS, MOST_FIXES};
-ghost use Rattle.pay_rules.specs.Taps.{judged};
+ghost use Rattle.pay_rules.specs.Taps.{number as tap_number, same_tap};
+ghost use Rattle.pay_numbered.specs.Sound.{addition_at, IsPlace, IsPlaceFor};
 ghost use Rattle.pay_rules.specs.Fixes.{judged as judged_fix};
 ghost use Rattle.pay_day.specs.Words.{IsDay};
 ghost use Rattle.pay_rules.specs.Accepted.{version, with_tap, with_fix};
@@ -78,32 +79,31 @@ impl Account {
         &self.fixes
     }
 
-    /// What comes of a tap where memory suffices: it is to be accepted, it is a repeat, or it is refused.
-    pub fn judge_tap(&self, editions: &Editions, tap: &Tap) -> Result<Addition, TapFault>
-        ensures judged { IfOk result (λ it. judged self.now.1.taps tap.now ≡ Ok it) }
-        ensures priced { IfOk result (λ it. tap_result editions.now self.now.1 tap.now ≡ tap_added editions.now self.now.1 tap.now (Ok it)) }
+    /// What comes of a tap where memory suffices: its place among the accepted taps if it is to be accepted, `None` if it is a repeat,
+    /// or why it is refused.
+    pub fn judge_tap(&self, editions: &Editions, tap: &Tap) -> Result<Option<usize>, TapFault>
+        ensures judged { IfOk result (λ place. IsPlaceFor same_tap tap_number MOST_TAPS (Ok place) self.now.1.taps tap.now) }
+        ensures priced { IfOk result (λ place. tap_result editions.now self.now.1 tap.now ≡ tap_added editions.now self.now.1 tap.now (Ok (addition_at place))) }
         ensures refused { IfErr result (λ fault. tap_result editions.now self.now.1 tap.now ≡ Err fault) }
     {
         if !is_known(editions, tap.place, tap.kind) {
             return Err(TapFault::UnknownPlace);
         }
-        Ok(self.taps.judge(tap)?)
+        Ok(self.taps.place_for(tap)?)
     }
 
-    /// Accepts a tap that is judged to be accepted, and prices nothing. An `Err` is out of memory.
-    pub fn accept_tap(&mut self, tap: Tap) -> Result<(), AllocError>
+    /// Accepts a tap at its place, and prices nothing. An `Err` is out of memory.
+    pub fn accept_tap(&mut self, place: usize, tap: Tap) -> Result<(), AllocError>
         requires own { tap.account ≡ self.old.0 }
-        requires judged { judged self.old.1.taps tap ≡ Ok Addition.Added }
+        requires place { IsPlace same_tap tap_number MOST_TAPS place self.old.1.taps tap }
         ensures same_account { self.new.0 ≡ self.old.0 }
         ensures accepted { OnOk result (self.new.1 ≡ with_tap self.old.1 tap) }
         ensures same { OnErr result (self.new.1 ≡ self.old.1) }
     {
         pay_rule_laws::sets::judgements::<Tap>();
         pay_rule_laws::sets::one_more::<Tap>();
-        match self.taps.add(tap) {
-            Ok(_) => Ok(()),
-            Err(_) => Err(AllocError),
-        }
+        self.taps.put_at(place, tap)?;
+        Ok(())
     }
 
     /// What comes of a correction where memory suffices.

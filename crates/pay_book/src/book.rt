@@ -1,7 +1,9 @@
 ghost use Rattle.std.specs.Prelude.{◌≡◌, ◌≢◌, ◌≤◌, ◌+◌, ◌*◌, List, Ok, Err, OnOk, OnErr};
 ghost use Rattle.pay_day.specs.Words.{IsDay};
 ghost use Rattle.pay_rules.specs.declared.addition.Addition.TheVariants as Addition;
-ghost use Rattle.pay_rules.specs.Taps.{judged};
+ghost use Rattle.pay_rules.specs.declared.limits.TheConstants.{MOST_TAPS};
+ghost use Rattle.pay_rules.specs.Taps.{number as tap_number, same_tap};
+ghost use Rattle.pay_numbered.specs.Sound.{IsPlace};
 ghost use Rattle.pay_rules.specs.Fixes.{judged as judged_fix};
 ghost use Rattle.pay_rules.specs.Prices.{prices};
 ghost use Rattle.pay_rules.specs.FixResults.{prices_named, IsFixResult, after_fix};
@@ -114,9 +116,9 @@ impl Book {
         pay_rule_laws::accounts::refusals();
         self.steps = Steps::new();
         match self.account.judge_tap(editions, &tap)? {
-            Addition::Repeat => Ok(self.prices(editions, true, tap.stamp.day())),
-            Addition::Added => {
-                self.add_tap(editions, tap)?;
+            None => Ok(self.prices(editions, true, tap.stamp.day())),
+            Some(place) => {
+                self.add_tap(editions, place, tap)?;
                 Ok(self.prices(editions, false, tap.stamp.day()))
             }
         }
@@ -144,10 +146,10 @@ impl Book {
         }
     }
 
-    /// Accepts a tap that is judged to be accepted. An `Err` is out of memory: then it is as before.
-    fn add_tap(&mut self, editions: &Editions, tap: Tap) -> Result<(), AllocError>
+    /// Accepts a tap at its place. An `Err` is out of memory: then it is as before.
+    fn add_tap(&mut self, editions: &Editions, place: usize, tap: Tap) -> Result<(), AllocError>
         requires own { tap.account ≡ self.old.account }
-        requires judged { judged self.old.accepted.taps tap ≡ Ok Addition.Added }
+        requires place { IsPlace same_tap tap_number MOST_TAPS place self.old.accepted.taps tap }
         requires held { IsConsistent editions.now self.old }
         ensures same_account { self.new.account ≡ self.old.account }
         ensures accepted { OnOk result (self.new.accepted ≡ with_tap self.old.accepted tap) }
@@ -164,7 +166,7 @@ impl Book {
         let repair = self
             .held
             .prepare(self.alloc, editions, &change, &mut self.steps)?;
-        self.account.accept_tap(tap)?;
+        self.account.accept_tap(place, tap)?;
         self.held.apply(editions, &change, &repair, &mut self.steps);
         Ok(())
     }

@@ -33,6 +33,7 @@ use pay_wire::KnownWriter;
 use pay_zone::Zone;
 use sqlite::Alter;
 use std::alloc::{AllocError, Global};
+use std::mem::forget;
 use std::sync::Arc;
 
 /// The first step of a session: reads the fare file, then the zone, and takes the whole lines of the journal, in this order. What stands
@@ -122,14 +123,18 @@ impl Begun {
     }
 }
 
-/// How a session ended by itself, or why the program fails: that something was not kept is told before the fault of a stream.
+/// How a session ended by itself, or why the program fails: that something was not kept is told before the fault of a stream. The
+/// program is to end then: the accounts' memory is not given back one by one, but with its own.
 pub fn told<K: Keeper>(ran: Ran<Book, K>) -> Result<Done, Fault>
     ensures { result ≡ told_of ran.desk.stuck ran.ended }
 {
-    if ran.desk.is_stuck() {
+    let Ran { ended, desk } = ran;
+    let is_stuck = desk.is_stuck();
+    forget(desk);
+    if is_stuck {
         return Err(Fault::Journal);
     }
-    match ran.ended {
+    match ended {
         Ok(done) => Ok(done),
         Err(fault) => Err(Fault::from(fault)),
     }
