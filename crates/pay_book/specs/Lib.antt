@@ -9,3 +9,4 @@ pub mod MarkedTaps
 pub mod Books
 pub mod Stored
 pub mod History
+pub mod JourneyLists

@@ -8,6 +8,7 @@ ghost use Rattle.pay_book.specs.Boardings.{boarded_after, IsDisturbed, is_paying
 ghost use Rattle.pay_book.specs.Fewer.{fewer_of};
 ghost use Rattle.pay_book.specs.Stretches.{with_later, Meet, HaveGoneOn};
 
+use crate::journey_list::JourneyList;
 use pay_day::Moment;
 use pay_rules::{Journey, Touch};
 use pay_tables::Tables;
@@ -18,15 +19,15 @@ use std::alloc::{AllocError, Global};
 #[derive(Drop)]
 pub(crate) struct Boardings {
     /// The disturbed boardings without the tap.
-    pub fewer: Vec<Journey>,
+    pub fewer: JourneyList,
     /// Those in their place with the tap: it is the first of them.
-    pub more: Vec<Journey>,
+    pub more: JourneyList,
 }
 
 /// Boardings one after another, and the moment of the last one up to them that paid.
 #[derive(Drop)]
 struct Stretch {
-    boardings: Vec<Journey>,
+    boardings: JourneyList,
     last_paid: Option<Moment>,
 }
 
@@ -37,7 +38,7 @@ impl Stretch {
         ensures last_paid { result.last_paid ≡ last_paid.now }
     {
         Stretch {
-            boardings: Vec::new(alloc),
+            boardings: JourneyList::new(alloc),
             last_paid: *last_paid,
         }
     }

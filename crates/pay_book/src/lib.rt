@@ -6,6 +6,7 @@ mod book;
 mod day_sums;
 mod days;
 mod history;
+mod journey_list;
 pub mod laws;
 mod marked_taps;
 mod put_in;

@@ -162,7 +162,7 @@ impl MarkedTaps {
             is_there,
             steps,
         )?;
-        self.open(pick(&found.fewer, &found.more, is_there))?;
+        self.open(pick(found.fewer.as_slice(), found.more.as_slice(), is_there))?;
         Ok(found)
     }
 
@@ -249,8 +249,9 @@ impl MarkedTaps {
         laws::stored_marks();
         let place = self.buses.insert(touch);
         put_in(&mut self.pays, place, true);
-        boardings::mark(&mut self.pays, place, &found.more);
-        days::replace(&mut self.days, editions, &found.fewer, &found.more);
+        let (fewer, more) = (found.fewer.as_slice(), found.more.as_slice());
+        boardings::mark(&mut self.pays, place, more);
+        days::replace(&mut self.days, editions, fewer, more);
     }
 
     /// Takes out a bus tap, which disturbs these boardings.
@@ -271,8 +272,9 @@ impl MarkedTaps {
         self.buses.len();
         let place = self.buses.remove(touch);
         self.pays.remove(place);
-        boardings::mark(&mut self.pays, place, &found.fewer);
-        days::replace(&mut self.days, editions, &found.more, &found.fewer);
+        let (fewer, more) = (found.fewer.as_slice(), found.more.as_slice());
+        boardings::mark(&mut self.pays, place, fewer);
+        days::replace(&mut self.days, editions, more, fewer);
     }
 
     /// What a tap disturbs that enters, or that leaves where it is there.

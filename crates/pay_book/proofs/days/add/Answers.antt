@@ -1,7 +1,7 @@
 use Rattle.std.proofs.Common.{◌≡◌, ℕ, ap, ◌∙◌, rules}
-use Rattle.pay_tables.specs.Words.{FareTables, on}
+use Rattle.pay_tables.specs.Words.{FareTables}
 use Rattle.pay_caps.specs.declared.cell.Cell.{Cell}
-use Rattle.pay_caps.specs.Words.{CellSums, added, cell_of}
+use Rattle.pay_caps.specs.Words.{added, cell_of}
 use Rattle.pay_rules.specs.JourneyFares.{fare}
 use Rattle.pay_book.specs.Days.{day_of}
 use Rattle.pay_book.proofs.Sums.{one_changed}

@@ -16,9 +16,9 @@ mark-requires c =
     let touch = c.args.touch.now in
     let its = place_of touch buses in
     let found = c.args.found.now in
-    fits_there c.deref_mut.result.now (remove (marks_by_last hopper None buses) its) c.remove-place.result its found.fewer.items c.deref.result.now
+    fits_there c.deref_mut.result.now (remove (marks_by_last hopper None buses) its) c.remove-place.result its found.fewer.items c.as_slice-fewer.result.now
     (c.deref_mut.ensures.value ∙ removed_there c.remove.new.self.items c.args.self.now.pays.items (marks_by_last hopper None buses) c.remove-place.result its c.remove.ensures.items c.requires.right.pays c.remove-place.ensures.place)
-    c.remove-place.ensures.place c.deref.ensures.value (c.stored_marks.ensures.room_without_it hopper buses touch found.fewer.items found.more.items c.len.ensures.timed c.requires.there c.requires.disturbed)
+    c.remove-place.ensures.place c.as_slice-fewer.ensures.value (c.stored_marks.ensures.room_without_it hopper buses touch found.fewer.items found.more.items c.len.ensures.timed c.requires.there c.requires.disturbed)
 
 pub replace-requires : goal.replace-requires
 replace-requires c =
@@ -33,7 +33,7 @@ replace-requires c =
     let can =
     boardings_can_be_replaced c.each_tap.ensures editions c.args.self.now.rail.touches buses fewer found.more.items found.fewer.items c.requires.disturbed.left c.requires.disturbed.right days
     c.requires.disturbed.without_it again c.requires.right.sums c.requires.held (omega (arith, one_shorter touch buses (place_of touch buses) c.requires.there, c.requires.few)) in
-    subst (λ old. CanReplace editions days old c.deref-3.result.now) (sym c.deref-2.ensures.value) (subst (λ new. CanReplace editions days found.more.items new) (sym c.deref-3.ensures.value) can)
+    subst (λ old. CanReplace editions days old c.as_slice-fewer.result.now) (sym c.as_slice-more.ensures.value) (subst (λ new. CanReplace editions days found.more.items new) (sym c.as_slice-fewer.ensures.value) can)
 
 pub returns-clause-right : goal.returns-clause-right
 returns-clause-right c =
@@ -56,13 +56,13 @@ returns-clause-right c =
     record {
       starts = c.requires.right.starts;
       pays =
-          all_boarded base c.deref_mut.result.now c.mark.new.pays _ its _ found.fewer.items c.deref.result.now given c.deref.ensures.value
-          (c.mark.ensures ∙ ap (λ n. marked c.deref_mut.result.now n c.deref.result.now) c.remove-place.ensures.place) room (ap length c.deref_mut.ensures.value)
+          all_boarded base c.deref_mut.result.now c.mark.new.pays _ its _ found.fewer.items c.as_slice-fewer.result.now given c.as_slice-fewer.ensures.value
+          (c.mark.ensures ∙ ap (λ n. marked c.deref_mut.result.now n c.as_slice-fewer.result.now) c.remove-place.ensures.place) room (ap length c.deref_mut.ensures.value)
           ∙ c.stored_marks.ensures.without_it hopper buses touch found.fewer.items found.more.items c.len.ensures.timed c.requires.there c.requires.disturbed
           ∙ ap (marks_by_last hopper None) (sym after);
       sums =
-          bus_sums_after editions rail fewer c.remove-place.new.self.touches found.fewer.items c.deref-3.result.now left right c.replace.new.days after c.deref-3.ensures.value
+          bus_sums_after editions rail fewer c.remove-place.new.self.touches found.fewer.items c.as_slice-fewer.result.now left right c.replace.new.days after c.as_slice-fewer.ensures.value
           c.requires.disturbed.without_it
           (c.replace.ensures (journeys editions.own (legs editions rail) ++ left) right
-          (bus_sums_before editions rail buses found.more.items c.deref-2.result.now left right c.args.self.now.days c.deref-2.ensures.value again c.requires.right.sums));
+          (bus_sums_before editions rail buses found.more.items c.as_slice-more.result.now left right c.args.self.now.days c.as_slice-more.ensures.value again c.requires.right.sums));
     }
