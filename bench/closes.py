@@ -1,9 +1,10 @@
 #!/usr/bin/env python3
-"""Times closes of a day through farebox: a first one, and the same again after a tenth of the accounts had a late tap.
-See README.md."""
+"""Times closes of a day through farebox: a first one, and the same again after a tenth of the accounts had a late tap;
+and the same rows through Python's SQLite. See README.md."""
 
 import argparse
 import random
+import sqlite3
 import statistics
 import subprocess
 import sys
@@ -17,7 +18,7 @@ from oracle import rules
 from oracle.loads import FARES, MONDAY, DAYS, trip_taps
 
 FARE_FILE, TAPS_EACH, ONE_IN = "sample.toml", 4, 10
-AIM_GROWTH = 11
+AIM_GROWTH, AIM_BESIDE = 11, 1.0
 SUNDAY = MONDAY + DAYS - 1
 
 
@@ -38,6 +39,31 @@ class Took(NamedTuple):
 
 
 CLOSE = rules.Close(SUNDAY)
+
+# The tables that a close is posted to (docs/FILES.md).
+TABLES = """
+create table postings2 (id integer primary key autoincrement, account integer not null, week integer not null,
+  through integer not null, version integer not null, due integer not null, amount integer not null,
+  edition integer not null, unique (account, week, through, version));
+create table shares2 (posting integer not null references postings2 (id), operator integer not null,
+  amount integer not null, primary key (posting, operator));
+create table taps (account integer not null, reader integer not null, seq integer not null, utc integer not null,
+  day integer not null, second integer not null, place integer not null, kind integer not null,
+  primary key (account, reader, seq));
+create table fixes (account integer not null, staff integer not null, seq integer not null, what integer not null,
+  a integer not null, b integer not null, c integer not null, d integer not null, e integer not null,
+  primary key (account, staff, seq));
+"""
+READS = (
+    "select id, week, through, version, due, amount, edition from postings2 where account = ? order by +id",
+    "select posting, operator, amount from shares2 where posting in (select id from postings2 where account = ?)",
+    "select reader, seq, utc, day, second, place, kind from taps where account = ?",
+    "select staff, seq, what, a, b, c, d, e from fixes where account = ?",
+)
+POST = """insert into postings2 (account, week, through, version, due, amount, edition) values (?, ?, ?, ?, ?, ?, 4)
+  returning id"""
+SHARE = "insert into shares2 values (?, ?, ?)"
+ARCHIVE = "insert into taps values (?, ?, ?, ?, ?, ?, ?, ?)"
 
 
 def load(accounts, seed):
@@ -104,6 +130,40 @@ def session(program, it):
     return took
 
 
+def beside(it):
+    """The seconds of the same closes through Python and its SQLite, in memory. It prices nothing: in one transaction it
+    reads what each account has, by four statements, and adds the rows that are new, one by one."""
+    ledger = sqlite3.connect(":memory:", isolation_level=None)
+    ledger.executescript(TABLES)
+    took, posted = [], set()
+    for commands, (_, reply) in zip(it.before, it.replies):
+        quotes = [line.split()[1:] for line in reply.splitlines() if line.startswith("PAY ")]
+        taps = {int(account): [] for account, *_ in quotes}
+        for tap in commands:
+            taps[tap.account].append(tap)
+        began = time.perf_counter()
+        ledger.execute("begin")
+        for account, week, through, version, due, amount, *shares in quotes:
+            account = int(account)
+            for read in READS:
+                ledger.execute(read, (account,)).fetchall()
+            if (account, version) in posted:
+                continue
+            posted.add((account, version))
+            posting = ledger.execute(POST, (account, int(week), int(through), int(version), int(due), int(amount)))
+            (number,) = posting.fetchone()
+            for share in shares:
+                operator, part = share.split("=")
+                ledger.execute(SHARE, (number, int(operator), int(part)))
+            for tap in taps[account]:
+                day, second = divmod(tap.utc, 86_400)
+                kind = ("IN", "OUT", "BUS").index(tap.kind)
+                ledger.execute(ARCHIVE, (account, tap.reader, tap.seq, tap.utc, day, second, tap.place, kind))
+        ledger.execute("commit")
+        took.append(time.perf_counter() - began)
+    return took
+
+
 def report(it, which, rounds):
     """Prints a row for the closes of one kind, and returns the seconds of the middle round."""
     middle = statistics.median(round.seconds for round in rounds)
@@ -124,9 +184,11 @@ def main():
     words = asked(words)
     loads = [load(accounts, words.seed) for accounts in words.accounts]
     took = [[] for _ in loads]
+    other = [[] for _ in loads]
     for _ in range(words.rounds):
-        for it, rounds in zip(loads, took):
+        for it, rounds, others in zip(loads, took, other):
             rounds.append(session(words.program, it))
+            others.append(beside(it))
     print(f"{words.rounds} rounds in turn on one core; medians; all replies are those that the rules give\n")
     print(
         f"{'accounts':>8}  {'close':<6} {'time':>11} {'accounts a second':>18} "
@@ -134,6 +196,13 @@ def main():
     )
     for which, name in enumerate(("first", "again")):
         middles = [report(it, name, [closes[which] for closes in rounds]) for it, rounds in zip(loads, took)]
+        for it, middle, others in zip(loads, middles, other):
+            peer = statistics.median(closes[which] for closes in others)
+            met = "met" if peer / middle >= AIM_BESIDE else "MISSED"
+            print(
+                f"  {name}: the same rows of {it.accounts:,} accounts take {peer:.3f} s through Python's SQLite, "
+                f"{peer / middle:.2f} of the close (aim: {AIM_BESIDE}) {met}"
+            )
         for (least, less), (most, more) in zip(zip(loads, middles), zip(loads[1:], middles[1:])):
             growth, met = more / less, "met" if more / less <= AIM_GROWTH else "MISSED"
             print(

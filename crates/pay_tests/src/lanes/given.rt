@@ -88,7 +88,7 @@ pub fn due<R: Abort>(rt: &R, account: u32) -> Command
 pub fn pence(answer: &Answer) -> Option<u64> {
     match &answer.reply {
         Reply::Priced(priced) => Some(priced.day_price.pence()),
-        Reply::Due(quote) => Some(quote.due().pence()),
+        Reply::Due(owed) => Some(owed.quote().due().pence()),
         _ => None,
     }
 }
