@@ -1,5 +1,5 @@
 -- The fares of journeys, each beside its journey: what they are together, that they fit, and that what is due is no more.
-use Rattle.std.proofs.Common.{◌≡◌, ℕ, ◌*◌, ◌≤◌, Bool, not, List, [], ◌∷◌, length, map, filter, sum, sum_by, refl, arith}
+use Rattle.std.proofs.Common.{◌≡◌, ℕ, ◌*◌, ◌≤◌, Bool, not, List, [], ◌∷◌, length, map, filter, sum, sum_by, refl, ap, ◌∙◌, arith}
 use Rattle.std.proofs.lemmas.List.Sums.{sum_by-cons}
 use Rattle.std.proofs.lemmas.List.Filters.{length-filter_both}
 use Rattle.pay_money.specs.declared.limits.TheConstants.{MOST_MONEY}
@@ -8,13 +8,16 @@ use Rattle.pay_tables.specs.Words.{FareEditions, on}
 use Rattle.pay_day.specs.Words.{monday}
 use Rattle.pay_tables.specs.declared.limits.TheConstants.{MOST_FARE}
 use Rattle.pay_rules.specs.declared.journey.Journey.{Journey}
+use Rattle.pay_rules.specs.Accepted.{Accepted, touches}
+use Rattle.pay_rules.specs.Journeys.{journeys_of}
+use Rattle.pay_rules.specs.StandingCredits.{credits}
 use Rattle.pay_rules.specs.JourneyFares.{fare_by}
 use Rattle.pay_rules.specs.DayPrices.{day_price, fares}
 use Rattle.pay_rules.specs.WeekPrices.{DayJourneys, week_price, due}
 use Rattle.pay_rules.specs.OperatorWeights.{sum_of_fares, weights}
 use Rattle.pay_rules.specs.QuoteParts.{QuoteParts}
 use Rattle.pay_rules.specs.Prices.{journeys_on, with_journeys, days_through, journeys_through, price_of_week}
-use Rattle.pay_rules.specs.Quotes.{with_fare, weights_through}
+use Rattle.pay_rules.specs.Quotes.{with_fare, weights_through, due_through}
 use Rattle.pay_account.proofs.DaySums.{fares_on, week_by_days}
 
 pub fares_beside : (editions : FareEditions) (list : List Journey) → sum_of_fares (map (with_fare editions) list) ≡ sum_by (fare_by editions) list
@@ -37,6 +40,13 @@ parts account week through version due edition shares = record { account = accou
 
 pub same_quote : {a b w x v y d e f g : ℕ} {s t : List ℕ} → (through : ℕ) → a ≡ b → w ≡ x → v ≡ y → d ≡ e → f ≡ g → s ≡ t → parts a w through v d f s ≡ parts b x through y e g t
 same_quote through p q r u h z = rw (p, q, r, u, h, z) refl
+
+-- what is due, by all journeys, the price of the week and the credits
+pub due_as : (editions : FareEditions) (accepted : Accepted) (list : List Journey) (through price credited due_is : ℕ) → list ≡ journeys_of editions (touches accepted)
+    → price ≡ price_of_week editions list through → credited ≡ credits accepted.fixes (monday through) through → due_is ≡ due price credited → due_is ≡ due_through editions accepted through
+due_as editions accepted list through price credited due_is all priced given is =
+    is ∙ ap (λ (n : ℕ). due n credited) (priced ∙ ap (λ (its : List Journey). price_of_week editions its through) all)
+    ∙ ap (due (price_of_week editions (journeys_of editions (touches accepted)) through)) given
 
 -- the price of a day by its edition
 abbrev pub price_of_one : FareEditions → DayJourneys → ℕ

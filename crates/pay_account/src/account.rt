@@ -1,16 +1,20 @@
-ghost use Rattle.std.specs.Prelude.{◌≡◌, ◌+◌, ◌≤◌, true, Ok, Err, IfOk, IfErr, OnOk, OnErr};
+ghost use Rattle.std.specs.Prelude.{◌≡◌, ◌+◌, ◌≤◌, true, length, Ok, Err, IfOk, IfErr, OnOk, OnErr};
 ghost use Rattle.pay_rules.specs.declared.addition.Addition.TheVariants as Addition;
-ghost use Rattle.pay_rules.specs.declared.limits.TheConstants.{MOST_TAPS, MOST_FIXES};
+ghost use Rattle.pay_rules.specs.declared.limits.TheConstants.{MOST_TAPS, MOST_FIXES, MOST_TOUCHES};
 ghost use Rattle.pay_rules.specs.Taps.{number as tap_number, same_tap};
 ghost use Rattle.pay_numbered.specs.Sound.{addition_at, IsPlace, IsPlaceFor};
 ghost use Rattle.pay_rules.specs.Fixes.{judged as judged_fix};
-ghost use Rattle.pay_day.specs.Words.{IsDay};
-ghost use Rattle.pay_rules.specs.Accepted.{version, with_tap, with_fix};
-ghost use Rattle.pay_rules.specs.Prices.{prices};
+ghost use Rattle.pay_day.specs.Words.{IsDay, monday};
+ghost use Rattle.pay_rules.specs.Accepted.{touches, version, with_tap, with_fix};
+ghost use Rattle.pay_rules.specs.Journeys.{journeys_of};
+ghost use Rattle.pay_rules.specs.Lines.{shown, week_lines};
+ghost use Rattle.pay_rules.specs.Quotes.{quote};
+ghost use Rattle.pay_rules.specs.Prices.{prices, price_of_week};
 ghost use Rattle.pay_rules.specs.TapResults.{tap_added, tap_result};
 ghost use Rattle.pay_rules.specs.FixResults.{prices_named, fix_added, fix_result};
 
 use crate::journeys::journeys_of;
+use crate::laws;
 use crate::lines::lines_on;
 use crate::places::{is_known, is_known_fix};
 use crate::prices::{price, price_on};
@@ -21,8 +25,8 @@ use pay_day::monday;
 use pay_fix::{FixSet, credits, day_named, effective};
 use pay_money::Pence;
 use pay_rules::{
-    Addition, Fares, Fix, FixFault, Lines, Numbered, Priced, Quote, Sets, Shown, Tap, TapFault,
-    What,
+    Addition, Fares, Fix, FixFault, Journey, Lines, Numbered, Priced, Quote, Sets, Shown, Tap,
+    TapFault, What,
 };
 use pay_shares::shares;
 use pay_tables::Editions;
@@ -134,6 +138,73 @@ impl Account {
         }
     }
 
+    /// A service day of the account, by all its journeys.
+    pub fn show_by(
+        &self,
+        editions: &Editions,
+        journeys: Vec<Journey>,
+        day: u32,
+    ) -> Result<Shown, AllocError>
+        requires all { journeys.items ≡ journeys_of editions.now (touches self.now.1) }
+        requires few { length journeys.items ≤ MOST_TOUCHES }
+        ensures { IfOk result (λ it. it ≡ shown editions.now self.now.0 self.now.1 day) }
+    {
+        let (day_price, band) = price_on(editions, &journeys, day);
+        let lines = lines_on(self.alloc, editions, journeys, day, band)?;
+        Ok(Shown {
+            account: self.number,
+            day,
+            lines,
+            day_price,
+        })
+    }
+
+    /// What the account owes of a week through one of its days, by all its journeys and the price of that week.
+    pub fn quote_by(
+        &self,
+        editions: &Editions,
+        journeys: Vec<Journey>,
+        price: Pence,
+        through: u32,
+    ) -> Result<Quote, AllocError>
+        requires numbered { 1 ≤ self.now.0 }
+        requires is_day { IsDay through }
+        requires all { journeys.items ≡ journeys_of editions.now (touches self.now.1) }
+        requires few { length journeys.items ≤ MOST_TOUCHES }
+        requires priced { price ≡ price_of_week editions.now journeys.items through }
+        ensures { IfOk result (λ it. it ≡ quote editions.now self.now.0 self.now.1 through) }
+    {
+        laws::quotes(editions);
+        let week = monday(through);
+        let due = due(price, credits(&self.fixes, week, through));
+        let weights = weights_through(self.alloc, editions, journeys, through)?;
+        Ok(quote_of(
+            self.number,
+            week,
+            through,
+            self.version() as u32,
+            due,
+            edition_day(editions, week),
+            shares(due, &weights),
+        ))
+    }
+
+    /// The journeys of the week of a Monday, by all of the account's.
+    pub fn lines_by(
+        &self,
+        editions: &Editions,
+        journeys: Vec<Journey>,
+        week: u32,
+    ) -> Result<Lines, AllocError>
+        requires is_day { IsDay week }
+        requires is_monday { monday week ≡ week }
+        requires all { journeys.items ≡ journeys_of editions.now (touches self.now.1) }
+        requires few { length journeys.items ≤ MOST_TOUCHES }
+        ensures { IfOk result (λ it. it ≡ week_lines editions.now self.now.1 week) }
+    {
+        lines_of_week(self.alloc, editions, journeys, week)
+    }
+
     /// The prices of a day and its week.
     fn price(&self, editions: &Editions, again: bool, day: u32) -> Result<Priced, AllocError>
         requires { IsDay day }
@@ -225,40 +296,20 @@ impl Fares for Account {
     fn show(&self, editions: &Editions, day: u32) -> Result<Shown, AllocError> {
         let touches = effective(self.alloc, &self.taps, &self.fixes)?;
         let journeys = journeys_of(self.alloc, editions, &touches)?;
-        let (day_price, band) = price_on(editions, &journeys, day);
-        let lines = lines_on(self.alloc, editions, journeys, day, band)?;
-        Ok(Shown {
-            account: self.number,
-            day,
-            lines,
-            day_price,
-        })
+        self.show_by(editions, journeys, day)
     }
 
     fn quote(&self, editions: &Editions, through: u32) -> Result<Quote, AllocError> {
         let touches = effective(self.alloc, &self.taps, &self.fixes)?;
         let journeys = journeys_of(self.alloc, editions, &touches)?;
-        let week = monday(through);
-        let due = due(
-            price_through(editions, &journeys, through),
-            credits(&self.fixes, week, through),
-        );
-        let weights = weights_through(self.alloc, editions, journeys, through)?;
-        Ok(quote_of(
-            self.number,
-            week,
-            through,
-            self.version() as u32,
-            due,
-            edition_day(editions, week),
-            shares(due, &weights),
-        ))
+        let price = price_through(editions, &journeys, through);
+        self.quote_by(editions, journeys, price, through)
     }
 
     fn lines(&self, editions: &Editions, week: u32) -> Result<Lines, AllocError> {
         let touches = effective(self.alloc, &self.taps, &self.fixes)?;
         let journeys = journeys_of(self.alloc, editions, &touches)?;
-        lines_of_week(self.alloc, editions, journeys, week)
+        self.lines_by(editions, journeys, week)
     }
 
     fn sets(&self) -> Result<Sets, AllocError> {
