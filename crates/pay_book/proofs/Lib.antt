@@ -6,6 +6,7 @@ pub mod Weeks
 pub mod Boarded
 pub mod MarksOfTaps
 pub mod LastPaid
+pub mod AllJourneys
 pub mod Written
 pub mod Marks
 pub mod Fewer

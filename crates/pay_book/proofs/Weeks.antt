@@ -70,13 +70,19 @@ day_of_none editions days list day law are is =
     let free : 0 ≡ day_price (on editions day) [] = omega arith in
     free ∙ sym (ap (day_price (on editions day)) none)
 
+-- of a week through one of its days
+pub through_as : (free : EmptyDayIsFree) (editions : FareEditions) (days : Days) (list : List Journey) (through price first : ℕ) (week : List DaySums) (those : List ℕ) → AreSums editions days list
+    → week ≡ stored_of days those → days_through through ≡ those → monday through ≡ first → ((lists : List DayJourneys) → week ≡ sums_of_days editions lists → price ≡ week_price editions first lists)
+    → price ≡ price_of_week editions list through
+through_as free editions days list through price first week those are is all at of_week =
+    let held = those_stored free editions first days list are those in
+    of_week held.lists (is ∙ held.sums) ∙ held.price [] ∙ sym (ap (λ (its : List ℕ). week_price editions first (map (with_journeys list) its)) all)
+    ∙ sym (ap (λ (its : ℕ). week_price editions its (map (with_journeys list) (days_through through))) at)
+
 pub priced_as : (free : EmptyDayIsFree) (editions : FareEditions) (days : Days) (list : List Journey) (again : Bool) (day day_price_is week_price_is : ℕ) (week : List DaySums) (those : List ℕ) (first : ℕ) → AreSums editions days list
     → day_price_is ≡ price_of_day editions list day → week ≡ stored_of days those → days_through (sunday day) ≡ those → monday (sunday day) ≡ first
     → ((lists : List DayJourneys) → week ≡ sums_of_days editions lists → week_price_is ≡ week_price editions first lists)
     → record { again = again; day = day; day_price = day_price_is; week_price = week_price_is } ≡ prices_of_journeys editions list again day
 priced_as free editions days list again day day_price_is week_price_is week those first are of_day is through at of_week =
-    let held = those_stored free editions first days list are those in
-    let whole : week_price_is ≡ price_of_week editions list (sunday day) =
-    of_week held.lists (is ∙ held.sums) ∙ held.price [] ∙ sym (ap (λ (all : List ℕ). week_price editions first (map (with_journeys list) all)) through)
-    ∙ sym (ap (λ (its : ℕ). week_price editions its (map (with_journeys list) (days_through (sunday day)))) at) in
+    let whole = through_as free editions days list (sunday day) week_price_is first week those are is through at of_week in
     λ i. record { again = again; day = day; day_price = of_day i; week_price = whole i }

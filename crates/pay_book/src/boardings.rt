@@ -1,4 +1,5 @@
-ghost use Rattle.std.specs.Prelude.{◌≡◌, ◌+◌, ◌≤◌, ◌<◌, ◌∷◌, [], suc, true, false, ◌++◌, ◌&&◌, List, Some, if◌then◌else◌, length, take, drop, slice_get, IfOk, IfSome, OnOk, MatchOption};
+ghost use Rattle.std.specs.Prelude.{◌≡◌, ◌+◌, ◌≤◌, ◌<◌, ◌∷◌, [], suc, true, false, ◌++◌, ◌&&◌, List, Some, if◌then◌else◌, length, map, take, drop, slice_get, IfOk, IfSome, OnOk, MatchOption};
+ghost use Rattle.std.specs.List.{zip};
 ghost use Rattle.std.specs.Option.{option_map};
 ghost use Rattle.pay_rules.specs.declared.tap.Touch.{Touch};
 ghost use Rattle.pay_taps.specs.Words.{place_of, AreTimed};
@@ -219,4 +220,31 @@ pub(crate) fn mark(pays: &mut [bool], place: usize, boardings: &[Journey])
     for (index, boarding) in boardings.iter().enumerate() {
         pays[place + index] = is_paying(boarding);
     }
+}
+
+/// The mark at a place.
+fn mark_at(pays: &[bool], place: usize) -> Option<bool>
+    ensures { result ≡ slice_get pays.now place }
+{
+    pays.get(place).copied()
+}
+
+/// Adds all boardings, each with its mark. An `Err` is out of memory.
+pub(crate) fn add_all(
+    list: &mut Vec<Journey>,
+    buses: &Timeline,
+    pays: &[bool],
+) -> Result<(), AllocError>
+    requires { length pays.now ≡ length buses.now.touches }
+    ensures { OnOk result (list.new.items ≡ list.old.items ++ map boarding (zip buses.now.touches pays.now)) }
+{
+    list.reserve(buses.len())?;
+    let mut steps = Steps::new();
+    for place in 0..buses.len() {
+        let (Some(tap), Some(pays)) = (buses.at(place, &mut steps), mark_at(pays, place)) else {
+            unreachable!()
+        };
+        list.push(Journey::Bus { tap, pays })?;
+    }
+    Ok(())
 }

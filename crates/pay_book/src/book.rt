@@ -1,11 +1,12 @@
-ghost use Rattle.std.specs.Prelude.{◌≡◌, ◌≢◌, ◌≤◌, ◌+◌, ◌*◌, List, Ok, Err, OnOk, OnErr};
+ghost use Rattle.std.specs.Prelude.{◌≡◌, ◌≢◌, ◌≤◌, ◌+◌, ◌*◌, List, length, Ok, Err, IfOk, OnOk, OnErr};
 ghost use Rattle.pay_day.specs.Words.{IsDay};
 ghost use Rattle.pay_rules.specs.declared.addition.Addition.TheVariants as Addition;
-ghost use Rattle.pay_rules.specs.declared.limits.TheConstants.{MOST_TAPS};
+ghost use Rattle.pay_rules.specs.declared.limits.TheConstants.{MOST_TAPS, MOST_TOUCHES};
 ghost use Rattle.pay_rules.specs.Taps.{number as tap_number, same_tap};
 ghost use Rattle.pay_numbered.specs.Sound.{IsPlace};
 ghost use Rattle.pay_rules.specs.Fixes.{judged as judged_fix};
-ghost use Rattle.pay_rules.specs.Prices.{prices};
+ghost use Rattle.pay_rules.specs.Journeys.{journeys_of};
+ghost use Rattle.pay_rules.specs.Prices.{prices, price_of_week};
 ghost use Rattle.pay_rules.specs.FixResults.{prices_named, IsFixResult, after_fix};
 ghost use Rattle.pay_rules.specs.Accepted.{with_tap, with_fix, touches};
 ghost use Rattle.pay_rules.specs.TapResults.{IsTapResult, after_tap};
@@ -13,12 +14,12 @@ ghost use Rattle.pay_book.specs.Disturbed.{disturbed};
 ghost use Rattle.pay_book.specs.Stored.{IsConsistent};
 
 use crate::marked_taps::MarkedTaps;
-use crate::{days, laws};
+use crate::{boardings, days, laws, rail};
 use pay_account::Account;
 use pay_fix::{change_by_fix, change_by_tap, day_named};
 use pay_money::Pence;
 use pay_rules::{
-    Addition, Fares, Fix, FixFault, Lines, Priced, Quote, Sets, Shown, Tap, TapFault, What,
+    Addition, Fares, Fix, FixFault, Journey, Lines, Priced, Quote, Sets, Shown, Tap, TapFault, What,
 };
 use pay_tables::Editions;
 use pay_taps::{Steps, Timeline};
@@ -84,6 +85,32 @@ impl Book {
     {
         laws::boarded_by_all();
         days::prices(editions, &self.held.days, again, day)
+    }
+
+    /// The price of a week through one of its days.
+    fn price_through(&self, editions: &Editions, through: u32) -> Pence
+        requires is_day { IsDay through }
+        requires held { IsConsistent editions.now self.now }
+        ensures { result ≡ price_of_week editions.now (journeys_of editions.now (touches self.now.accepted)) through }
+    {
+        laws::boarded_by_all();
+        days::price_through(editions, &self.held.days, through)
+    }
+
+    /// All journeys. An `Err` is out of memory.
+    fn journeys(&self, editions: &Editions) -> Result<Vec<Journey>, AllocError>
+        requires held { IsConsistent editions.now self.now }
+        ensures all { IfOk result (λ list. list.items ≡ journeys_of editions.now (touches self.now.accepted)) }
+        ensures few { IfOk result (λ list. length list.items ≤ MOST_TOUCHES) }
+    {
+        laws::boarded_by_all();
+        pay_links::laws::each_tap();
+        pay_fix::laws::own_numbers();
+        self.account.taps().len();
+        self.account.fixes().len();
+        let mut list = rail::all_journeys(self.alloc, editions, &self.held.rail)?;
+        boardings::add_all(&mut list, &self.held.buses, &self.held.pays)?;
+        Ok(list)
     }
 
     /// The prices of the day that a correction names.
@@ -228,15 +255,19 @@ impl Fares for Book {
     }
 
     fn show(&self, editions: &Editions, day: u32) -> Result<Shown, AllocError> {
-        self.account.show(editions, day)
+        let journeys = self.journeys(editions)?;
+        self.account.show_by(editions, journeys, day)
     }
 
     fn quote(&self, editions: &Editions, through: u32) -> Result<Quote, AllocError> {
-        self.account.quote(editions, through)
+        let price = self.price_through(editions, through);
+        let journeys = self.journeys(editions)?;
+        self.account.quote_by(editions, journeys, price, through)
     }
 
     fn lines(&self, editions: &Editions, week: u32) -> Result<Lines, AllocError> {
-        self.account.lines(editions, week)
+        let journeys = self.journeys(editions)?;
+        self.account.lines_by(editions, journeys, week)
     }
 
     fn sets(&self) -> Result<Sets, AllocError> {

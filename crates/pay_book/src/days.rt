@@ -11,7 +11,7 @@ ghost use Rattle.pay_week.specs.Words.{sums_of_days};
 ghost use Rattle.pay_rules.specs.JourneyFares.{fare_by};
 ghost use Rattle.pay_rules.specs.WeekPrices.{DayJourneys, week_price};
 ghost use Rattle.pay_rules.specs.declared.journey.Journey.{Journey};
-ghost use Rattle.pay_rules.specs.Prices.{journeys_on, price_of_day, prices_of_journeys};
+ghost use Rattle.pay_rules.specs.Prices.{journeys_on, price_of_day, price_of_week, prices_of_journeys};
 ghost use Rattle.pay_book.specs.Days.{stored_on, sums_on, day_of, AreSummed, AreSums, AreThere, CanReplace, HaveRoomFor, StaySummed};
 
 use crate::day_sums::DaySums;
@@ -118,6 +118,17 @@ fn day_of(editions: &Editions, days: &DaySums, day: u32) -> Pence
         Some(cells) => pay_caps::day_price(editions.on(day), cells).0,
         None => Pence::ZERO,
     }
+}
+
+/// The price of a week through one of its days, by what is kept of them.
+pub(crate) fn price_through(editions: &Editions, days: &DaySums, through: u32) -> Pence
+    requires { IsDay through }
+    ensures { (list : List Journey) → AreSums editions.now days.now list → result ≡ price_of_week editions.now list through }
+{
+    pay_week::laws::empty_days();
+    let monday = monday(through);
+    let (those, week) = days.of_days(monday, through + 1 - monday);
+    week_of(editions, monday, those, week)
 }
 
 /// The price of a service day and of its week through Sunday, by what is kept of them.

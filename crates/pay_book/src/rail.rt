@@ -114,6 +114,22 @@ fn journeys_of(
     pay_links::journeys(alloc, editions.own(), &parts)
 }
 
+/// All journeys by rail. An `Err` is out of memory.
+pub(crate) fn all_journeys(
+    alloc: Global,
+    editions: &Editions,
+    rail: &Timeline,
+) -> Result<Vec<Journey>, AllocError>
+    ensures { IfOk result (λ list. list.items ≡ journeys editions.now.own (legs editions.now rail.now.touches)) }
+{
+    let stretch = Stretch {
+        from: 0,
+        to: rail.len(),
+    };
+    let taps = taps_of_stretch(alloc, rail, 0, false, &stretch, &mut Steps::new())?;
+    journeys_of(alloc, editions, &taps)
+}
+
 /// The journeys that a rail tap changes as it enters, or as it leaves where it is there: what they are
 /// without it and with it. All others stay as they are. An `Err` is out of memory.
 pub(crate) fn disturbed_by(
