@@ -5,7 +5,7 @@ ghost use Rattle.std.specs.List.Sorted.{IsPartitionedBy, IsPartitionPoint};
 ghost use Rattle.pay_blocks.specs.declared.limits.TheConstants.{HALF, MOST};
 ghost use Rattle.pay_blocks.specs.Laid.{begins, lowered, raised, IsPut};
 
-use crate::comes_after::ComesAfter;
+use crate::comes_after::{ComesAfter, place_among};
 use crate::limits::{HALF, MOST};
 use std::alloc::{AllocError, Global};
 use std::marker::Model;
@@ -84,7 +84,7 @@ impl<T: Copy> Block<T> {
         ensures within { result ≤ length self.now.items }
         ensures place { IsPartitionPoint (λ item. S.after sought.now item ≡ true) (λ item. S.after sought.now item ≡ false) self.now.items result }
     {
-        self.items.partition_point(|item| sought.comes_after(item))
+        place_among(&self.items, sought)
     }
 
     /// Begins one place later.

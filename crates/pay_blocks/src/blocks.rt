@@ -1,39 +1,53 @@
-ghost use Rattle.std.specs.Prelude.{◌≡◌, ◌≤◌, ◌<◌, ◌↔◌, true, false, Some, [], length, take, drop, slice_get, IsTrue, IsOk, IfOk, OnOk};
+ghost use Rattle.std.specs.Prelude.{◌≡◌, ◌≤◌, ◌<◌, ◌↔◌, true, false, Some, [], length, take, drop, slice_get, IsTrue, IsOk, IfOk, OnOk, OnErr};
 ghost use Rattle.std.specs.List.{insert, remove};
 ghost use Rattle.std.specs.List.Sorted.{IsPartitionedBy, IsPartitionPoint};
+ghost use Rattle.pay_blocks.specs.declared.limits.TheConstants.{MOST};
 
-use crate::block::Block;
-use crate::comes_after::ComesAfter;
-use crate::later::{begun, drop_empty, lower_from, make_way, passed, put_in, take_out};
+use crate::comes_after::{ComesAfter, place_among};
 use crate::limits::MOST;
+use crate::many_blocks::ManyBlocks;
 use std::alloc::{AllocError, Global};
 use std::marker::Model;
+use std::mem::replace;
 
-/// A list in blocks. In a contract it is its items, and for how many more there is room: none, or one.
+/// A list in blocks. As long as it has no more items than a block, these lie in one piece, and the list takes four words. In a
+/// contract it is its items, and for how many more there is room.
 #[derive(Drop)]
 pub struct Blocks<T: Copy> {
-    // A list that never was longer than a block has this one alone. It may become empty before the others.
-    first: Block<T>,
-    later: Vec<Block<T>>,
-    // The memory of a block to come.
-    spare: Vec<T>,
-    count: usize,
-    room: usize,
+    // All items, unless there are blocks.
+    few: Vec<T>,
+    // All items, once they were more than a block has.
+    many: Option<Box<ManyBlocks<T>>>,
 }
 
 impl<T: Copy> Model for Blocks<T> {
-    ghost use Rattle.std.specs.Prelude.{◌++◌};
+    ghost use Rattle.std.specs.Prelude.{◌≤◌, length};
+    ghost use Rattle.std.specs.Option.{option_map};
     ghost use Rattle.std.specs.Vec.{vec_capacity};
-    ghost use Rattle.pay_blocks.specs.Parts.{BlocksParts, blocks_code};
-    ghost use Rattle.pay_blocks.specs.Laid.{joined, AreBlocks};
+    ghost use Rattle.pay_blocks.specs.declared.limits.TheConstants.{MOST};
+    ghost use Rattle.pay_blocks.specs.Parts.{BlocksParts, blocks_code, parts_of};
 
     ghost Value = { BlocksParts T };
 
     ghost coded = { blocks_code T.code };
 
-    ghost view = { λ b. record { items = b.first.items ++ joined b.later.items; room = b.room } };
+    ghost view = { λ b. parts_of b.few.items (vec_capacity b.few) (option_map (λ many. many.value) b.many) };
 
-    ghost invariant = { λ b. AreBlocks b.first b.later.items b.count b.room b.spare.items (vec_capacity b.spare) (vec_capacity b.later) };
+    ghost invariant = { λ b. length b.few.items ≤ MOST };
+}
+
+/// Takes items out and lays them in a block. An `Err` is out of memory, and then they are left.
+fn laid<T: Copy>(few: &mut Vec<T>) -> Result<Box<ManyBlocks<T>>, AllocError>
+    requires { length few.old.items ≤ MOST }
+    ensures laid { IfOk result (λ many. many.value.items ≡ few.old.items) }
+    ensures none { OnOk result (few.new.items ≡ []) }
+    ensures left { OnErr result (few.new ≡ few.old) }
+{
+    let alloc = *few.allocator();
+    let mut many = Box::new(alloc, ManyBlocks::of(Vec::new(alloc)))?;
+    let items = replace(few, Vec::new(alloc));
+    let _ = Box::replace(&mut many, ManyBlocks::of(items));
+    Ok(many)
 }
 
 impl<T: Copy> Blocks<T> {
@@ -42,11 +56,8 @@ impl<T: Copy> Blocks<T> {
         ensures { result.items ≡ [] }
     {
         Blocks {
-            first: Block::new(0, Vec::new(alloc)),
-            later: Vec::new(alloc),
-            spare: Vec::new(alloc),
-            count: 0,
-            room: 0,
+            few: Vec::new(alloc),
+            many: None,
         }
     }
 
@@ -54,26 +65,27 @@ impl<T: Copy> Blocks<T> {
     pub fn len(&self) -> usize
         ensures { result ≡ length self.now.items }
     {
-        self.count
+        match &self.many {
+            None => self.few.len(),
+            Some(many) => many.len(),
+        }
     }
 
     /// Whether there is none.
     pub fn is_empty(&self) -> bool
         ensures { IsTrue result ↔ (self.now.items ≡ []) }
     {
-        self.count == 0
+        self.len() == 0
     }
 
     /// The item at a place.
     pub fn get(&self, place: usize) -> Option<T>
         ensures { result ≡ slice_get self.now.items place }
     {
-        let begun = begun(&self.later, place);
-        if begun == 0 {
-            return self.first.get(place);
+        match &self.many {
+            None => self.few.get(place).copied(),
+            Some(many) => many.get(place),
         }
-        let block = &self.later[begun - 1];
-        block.get(place - block.start())
     }
 
     /// Items from a place on: as many as lie in one block, and at least one where one is there.
@@ -82,24 +94,24 @@ impl<T: Copy> Blocks<T> {
         ensures items { result.now ≡ take (length result.now) (drop place self.now.items) }
         ensures some { place < length self.now.items → 1 ≤ length result.now }
     {
-        let begun = begun(&self.later, place);
-        if begun == 0 {
-            return self.first.from(place);
+        match &self.many {
+            None => &self.few[place..],
+            Some(many) => many.from(place),
         }
-        let block = &self.later[begun - 1];
-        block.from(place - block.start())
     }
 
     /// All items, copied. An `Err` is out of memory.
     pub fn list(&self, alloc: Global) -> Result<Vec<T>, AllocError>
         ensures { IfOk result (λ items. items.items ≡ self.now.items) }
     {
-        let mut items = Vec::with_capacity(alloc, self.count)?;
-        items.extend_from_slice(self.first.from(0))?;
-        for block in &self.later {
-            items.extend_from_slice(block.from(0))?;
+        match &self.many {
+            None => {
+                let mut items = Vec::with_capacity(alloc, self.few.len())?;
+                items.extend_from_slice(&self.few)?;
+                Ok(items)
+            }
+            Some(many) => many.list(alloc),
         }
-        Ok(items)
     }
 
     /// How many items come before what is sought: where it stands, or would stand.
@@ -108,12 +120,10 @@ impl<T: Copy> Blocks<T> {
         ensures within { result ≤ length self.now.items }
         ensures place { IsPartitionPoint (λ item. S.after sought.now item ≡ true) (λ item. S.after sought.now item ≡ false) self.now.items result }
     {
-        let passed = passed(&self.later, sought);
-        if passed == 0 {
-            return self.first.place(sought);
+        match &self.many {
+            None => place_among(&self.few, sought),
+            Some(many) => many.place(sought),
         }
-        let block = &self.later[passed - 1];
-        block.start() + block.place(sought)
     }
 
     /// Makes room for one more. An `Err` is out of memory.
@@ -122,22 +132,16 @@ impl<T: Copy> Blocks<T> {
         ensures room { OnOk result (1 ≤ self.new.room) }
         ensures there { 1 ≤ self.old.room → IsOk result }
     {
-        if self.room > 0 {
-            return Ok(());
+        if let Some(many) = &mut self.many {
+            return many.reserve();
         }
-        if self.count == usize::MAX {
-            return Err(AllocError);
+        if self.few.len() < MOST {
+            return self.few.reserve(1);
         }
-        let is_full = self.first.len() >= MOST;
-        if !is_full {
-            self.first.reserve()?;
-        }
-        if is_full || !self.later.is_empty() {
-            self.spare.reserve_exact(MOST)?;
-            self.later.reserve(1)?;
-        }
-        self.room = 1;
-        Ok(())
+        let mut many = laid(&mut self.few)?;
+        let reserved = many.reserve();
+        self.many = Some(many);
+        reserved
     }
 
     /// Puts in one more, at a place. It takes no memory.
@@ -146,17 +150,14 @@ impl<T: Copy> Blocks<T> {
         requires within { place ≤ length self.old.items }
         ensures { self.new.items ≡ insert self.old.items place item }
     {
-        let begun = begun(&self.later, place);
-        self.room = 0;
-        self.count += 1;
-        if begun == 0 {
-            let is_last = self.later.is_empty();
-            let next = self.first.put(place, item, is_last, &mut self.spare);
-            make_way(&mut self.later, 0, next);
+        if let Some(many) = &mut self.many {
+            many.insert(place, item);
             return;
         }
-        let next = put_in(&mut self.later, begun - 1, place, item, &mut self.spare);
-        make_way(&mut self.later, begun, next);
+        match self.few.insert(place, item) {
+            Ok(()) => {}
+            Err(_) => unreachable!(),
+        }
     }
 
     /// Takes out the item at a place.
@@ -165,17 +166,9 @@ impl<T: Copy> Blocks<T> {
         ensures value { slice_get self.old.items place ≡ Some result }
         ensures after { self.new.items ≡ remove self.old.items place }
     {
-        let begun = begun(&self.later, place);
-        self.room = 0;
-        self.count -= 1;
-        if begun == 0 {
-            let item = self.first.remove(place);
-            lower_from(&mut self.later, 0);
-            return item;
+        if let Some(many) = &mut self.many {
+            return many.remove(place);
         }
-        let item = take_out(&mut self.later, begun - 1, place);
-        lower_from(&mut self.later, begun);
-        drop_empty(&mut self.later, begun - 1);
-        item
+        self.few.remove(place)
     }
 }

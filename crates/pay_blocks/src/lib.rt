@@ -6,6 +6,7 @@ mod blocks;
 mod comes_after;
 mod later;
 pub mod limits;
+mod many_blocks;
 
 pub use blocks::Blocks;
-pub use comes_after::ComesAfter;
+pub use comes_after::{ComesAfter, place_among};

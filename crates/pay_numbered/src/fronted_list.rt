@@ -3,7 +3,7 @@ ghost use Rattle.std.specs.List.{insert, remove};
 ghost use Rattle.std.specs.List.Sorted.{IsPartitionedBy, IsPartitionPoint};
 
 use arrayvec::ArrayVec;
-use pay_blocks::{Blocks, ComesAfter};
+use pay_blocks::{Blocks, ComesAfter, place_among};
 use std::alloc::{AllocError, Global};
 use std::default::MadeWith;
 use std::marker::Model;
@@ -25,15 +25,6 @@ impl<T: Copy, const FRONT: usize> Model for FrontedList<T, FRONT> {
     ghost coded = { coded_list T.code };
 
     ghost view = { λ list. list.front.items ++ list.rest.items };
-}
-
-/// How many of some items come before what is sought.
-fn place_among<T: Copy, S: ComesAfter<T>>(items: &[T], sought: &S) -> usize
-    requires { IsPartitionedBy (S.after sought.now) items.now }
-    ensures within { result ≤ length items.now }
-    ensures place { IsPartitionPoint (λ item. S.after sought.now item ≡ true) (λ item. S.after sought.now item ≡ false) items.now result }
-{
-    items.partition_point(|item| sought.comes_after(item))
 }
 
 /// Puts an item into a full front, whose last one then is the first after it, where there is room for that.

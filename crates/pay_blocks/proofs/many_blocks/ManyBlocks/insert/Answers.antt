@@ -1,6 +1,6 @@
 use Rattle.std.proofs.Common.{ap, ◌-◌, refl, arith}
 use Rattle.pay_blocks.proofs.Changes.{starts_fit, starts_fit_set, inserted_first, kept_first, inserted_later, laid_later, kept_later, within_later, laid_few, laid_capacity}
-use Rattle.pay_blocks.proofs.blocks.Blocks.insert.Goals as goal
+use Rattle.pay_blocks.proofs.many_blocks.ManyBlocks.insert.Goals as goal
 
 pub make_way-requires-clause-fits : goal.make_way-requires-clause-fits
 make_way-requires-clause-fits g c k d low lt =

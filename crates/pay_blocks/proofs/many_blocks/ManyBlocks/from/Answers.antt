@@ -1,6 +1,6 @@
 use Rattle.std.proofs.Common.{ap, ◌∙◌, ◌≡◌, ◌≤◌, ◌-◌, sym, subst, length, take, drop, arith}
 use Rattle.pay_blocks.proofs.Changes.{some_first, items_later, some_later, within_own}
-use Rattle.pay_blocks.proofs.blocks.Blocks.from.Goals as goal
+use Rattle.pay_blocks.proofs.many_blocks.ManyBlocks.from.Goals as goal
 
 pub returns-then-begun-eq0-clause-some : goal.returns-then-begun-eq0-clause-some
 returns-then-begun-eq0-clause-some g c lt =

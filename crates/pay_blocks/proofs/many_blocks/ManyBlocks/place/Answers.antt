@@ -3,7 +3,7 @@ use Rattle.pay_blocks.specs.Laid.{joined}
 use Rattle.std.specs.List.Sorted.{IsPartitionedBy, IsPartitionPoint}
 use Rattle.pay_blocks.proofs.Partitions.{parted_part}
 use Rattle.pay_blocks.proofs.Searches.{parts_of, parted_blocks, place_first, place_later, place_within}
-use Rattle.pay_blocks.proofs.blocks.Blocks.place.Goals as goal
+use Rattle.pay_blocks.proofs.many_blocks.ManyBlocks.place.Goals as goal
 
 pub passed-passed-requires : goal.passed-passed-requires
 passed-passed-requires g c = parted_blocks (g.S.ComesAfter.after c.args.sought.now) _ _ _ c.self.invariant.laid (ap (λ v. v.items) c.self.view_is) c.requires

@@ -1,6 +1,6 @@
 use Rattle.std.proofs.Common.{rules}
 use Rattle.std.proofs.lemmas.Fn.{always_returns_same}
-use Rattle.pay_numbered.proofs.fronted_list.place_among.Goals as goal
+use Rattle.pay_blocks.proofs.comes_after.place_among.Goals as goal
 
 pub returns-clause-place : goal.returns-clause-place
 returns-clause-place g c =

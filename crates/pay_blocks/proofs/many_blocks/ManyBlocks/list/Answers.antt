@@ -1,6 +1,6 @@
 use Rattle.std.proofs.Common.{ap}
 use Rattle.pay_blocks.proofs.Searches.{list_begun, list_more, list_done}
-use Rattle.pay_blocks.proofs.blocks.Blocks.list.Goals as goal
+use Rattle.pay_blocks.proofs.many_blocks.ManyBlocks.list.Goals as goal
 
 pub loop-block-init : goal.loop-block-init
 loop-block-init g c =

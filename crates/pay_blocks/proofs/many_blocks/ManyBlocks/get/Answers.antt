@@ -1,6 +1,6 @@
 use Rattle.std.proofs.Common.{ap, ◌∙◌, ◌-◌, slice_get}
 use Rattle.pay_blocks.proofs.Changes.{got_first, got_later}
-use Rattle.pay_blocks.proofs.blocks.Blocks.get.Goals as goal
+use Rattle.pay_blocks.proofs.many_blocks.ManyBlocks.get.Goals as goal
 
 pub returns-then-begun-eq0 : goal.returns-then-begun-eq0
 returns-then-begun-eq0 g c =

@@ -1,7 +1,7 @@
 use Rattle.std.proofs.Common.{ap, ◌∙◌, sym, refl}
 use Rattle.pay_blocks.proofs.Changes.{IsFound, got_first, got_later, inside_later}
 use Rattle.pay_blocks.proofs.Removals.{removed_first, kept_removed_first, taken_out, removed_later, laid_removed, kept_removed}
-use Rattle.pay_blocks.proofs.blocks.Blocks.remove.Goals as goal
+use Rattle.pay_blocks.proofs.many_blocks.ManyBlocks.remove.Goals as goal
 
 pub invariant_of-self : goal.invariant_of-self
 invariant_of-self g c =
