@@ -9,7 +9,7 @@ use Rattle.std.proofs.lemmas.List.{append-nil}
 use Rattle.pay_rules.specs.InTurn.{IsIn}
 use Rattle.pay_tables.specs.Words.{FareEditions}
 use Rattle.pay_rules.specs.State.{State}
-use Rattle.pay_shard.specs.Words.{LocalParts, commands_of, transcript_of, AreInPlace, AreBelow, ShardParts, with_item, with_items, with_memory, state_now, replay, new_items, IsHistory, without, IsReplyTo, ReplayGoesOn, NewStandAfter, FrontHasReply}
+use Rattle.pay_shard.specs.Words.{LocalParts, commands_of, transcript_of, AreInPlace, AreBelow, ShardParts, with_item, with_items, with_memory, state_now, replay, new_items, IsHistory, without, IsReplyTo, ReplayGoesOn, NewStandAfter, FrontHasReply, JournalMemory}
 use Rattle.pay_shard.specs.declared.asked.Asked.{Asked}
 use Rattle.pay_shard.specs.declared.asked.Asked.TheVariants as asked
 use Rattle.pay_shard.specs.declared.desk.DeskFault.{DeskFault}
@@ -187,19 +187,23 @@ module _ {K : Type 0} (HasFailed : K → Type 0) (holds : K → Option (List ℕ
   parts_of began keeper first shown waiting stuck =
       record { seen = record { shard = shown; waiting = waiting }; first = first.journal; held_first = holds began; holds = holds keeper; stuck = stuck }
 
-  pub all_begun : (desk : LocalParts) (began keeper : K) (shown first : ShardParts) → shown ≡ desk.shard → first ≡ desk.shard → began ≡ keeper
-      → desk.shard.number ≡ 0 → AreInPlace 0 desk.shard.journal → IsHistory desk.shard.editions desk.shard.base desk.shard.journal → AreBelow (length desk.shard.journal) desk.waiting
-      → IsKeptDesk (HasFailed keeper) desk (parts_of began keeper first shown desk.waiting false)
-  all_begun desk began keeper shown first is_shown is_first same number placed history below =
-      subst (λ (b : K). IsKeptDesk (HasFailed keeper) desk (parts_of b keeper first shown desk.waiting false)) (sym same)
-      (subst (λ (f : ShardParts). IsKeptDesk (HasFailed keeper) desk (parts_of keeper keeper f shown desk.waiting false)) (sym is_first)
-      (subst (λ (s : ShardParts). IsKeptDesk (HasFailed keeper) desk (parts_of keeper keeper desk.shard s desk.waiting false)) (sym is_shown)
+  pub all_begun : (desk after : LocalParts) (began keeper : K) (shown first : ShardParts) (memory : JournalMemory) → shown ≡ desk.shard → first ≡ desk.shard → began ≡ keeper
+      → after ≡ record { shard = with_memory desk.shard memory; waiting = desk.waiting } → desk.shard.number ≡ 0 → AreInPlace 0 desk.shard.journal → IsHistory desk.shard.editions desk.shard.base desk.shard.journal → AreBelow (length desk.shard.journal) desk.waiting
+      → IsKeptDesk (HasFailed keeper) after (parts_of began keeper first shown after.waiting false)
+  all_begun desk after began keeper shown first memory is_shown is_first same forgets number placed history below =
+      subst (λ (d : LocalParts). IsKeptDesk (HasFailed keeper) d (parts_of began keeper first shown d.waiting false)) (sym forgets)
+      (subst (λ (b : K). IsKeptDesk (HasFailed keeper) left (parts_of b keeper first shown desk.waiting false)) (sym same)
+      (subst (λ (f : ShardParts). IsKeptDesk (HasFailed keeper) left (parts_of keeper keeper f shown desk.waiting false)) (sym is_first)
+      (subst (λ (s : ShardParts). IsKeptDesk (HasFailed keeper) left (parts_of keeper keeper desk.shard s desk.waiting false)) (sym is_shown)
       (record {
-        seen = sees_all false desk below;
+        seen = record { more = []; is_more = sym (with_none desk.shard memory); none = λ _. refl; below = below };
         own = record { number = number; in_place = placed; history = history };
         failed = λ e. absurd (cc);
         lines = begins desk (holds keeper);
-      })))
+      }))))
+    where
+      left : LocalParts
+      left = record { shard = with_memory desk.shard memory; waiting = desk.waiting }
 
   module _ (began before keeper : K) (first shown : ShardParts) (desk : LocalParts) (stuck : Bool) (is : IsKeptDesk (HasFailed before) desk (parts_of began before first shown desk.waiting stuck)) (free : stuck ≡ false)
       (keeps : Keeps (holds before) (holds keeper)) where

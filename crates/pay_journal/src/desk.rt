@@ -3,7 +3,7 @@ ghost use Rattle.std.specs.Prelude.{◌≡◌, ◌≢◌, ◌⊎◌, ◌↔◌, 
 ghost use Rattle.std.specs.Io.KnownBytes.{Appends, Keeps};
 ghost use Rattle.pay_rules.specs.InTurn.{IsIn};
 ghost use Rattle.pay_wire.specs.Words.{AppendsFront};
-ghost use Rattle.pay_shard.specs.Words.{IsForShards, IsHistory, AreInPlace, IsAfterAll, IsNoneOf, NothingIsLost, commands_of, transcript_of, with_items, with_waiting, without};
+ghost use Rattle.pay_shard.specs.Words.{IsForShards, IsHistory, IsKeptBy, AreInPlace, IsAfterAll, IsNoneOf, NothingIsLost, commands_of, transcript_of, with_items, with_waiting, without};
 ghost use Rattle.pay_shard.specs.declared.desk.DeskFault.TheVariants as desk_fault;
 ghost use Rattle.pay_shard.specs.declared.item.Item.{Item};
 ghost use Rattle.pay_journal.specs.KeptAnswers.{is_quotes, line_if};
@@ -14,7 +14,7 @@ ghost use Rattle.pay_journal.specs.Puts.{IsPutKept, IsNotPut, is_new_answer, is_
 use crate::keeper::{Keeper, NotKept};
 use crate::keeping::keep_answer;
 use pay_rules::Fares;
-use pay_shard::{Command, Desk, DeskFault, LocalDesk, Reply, Shard, Ticket};
+use pay_shard::{Command, Desk, DeskFault, KeepsBlock, LocalDesk, Reply, Shard, Ticket};
 use std::marker::Model;
 use std::snapshot::Snapshot;
 
@@ -31,7 +31,7 @@ use std::snapshot::Snapshot;
 /// it takes nothing more.
 #[derive(Drop)]
 pub struct KeptDesk<F: Fares, K: Keeper> {
-    desk: LocalDesk<F>,
+    desk: LocalDesk<F, KeepsBlock>,
     keeper: K,
     // Whether something could not be kept.
     stuck: bool,
@@ -68,7 +68,8 @@ impl<F: Fares, K: Keeper> Model for KeptDesk<F, K> {
 }
 
 impl<F: Fares, K: Keeper> KeptDesk<F, K> {
-    /// A desk that goes on from a local one, and keeps lines after what a keeper holds.
+    /// A desk that goes on from a local one, and keeps lines after what a keeper holds. It forgets the journal so far, and has no more
+    /// than a block of it in memory from then on.
     pub fn begin(desk: LocalDesk<F>, keeper: K) -> KeptDesk<F, K>
         ensures { result ≡ record { seen = desk; first = desk.shard.journal; held_first = K.holds keeper; holds = K.holds keeper; stuck = false } }
     {
@@ -78,7 +79,7 @@ impl<F: Fares, K: Keeper> KeptDesk<F, K> {
             first: Snapshot::of(desk.shard()),
             began: Snapshot::of(&keeper),
             stuck: false,
-            desk,
+            desk: desk.forgetting(),
             keeper,
         }
     }
@@ -98,13 +99,15 @@ impl<F: Fares, K: Keeper> KeptDesk<F, K> {
         self.stuck
     }
 
-    /// The shard. If the desk is stuck, its journal may have one item more than is seen.
+    /// The shard, which has no more than a block of its journal in memory. If the desk is stuck, its journal may have one item more than
+    /// is seen.
     pub fn shard(&self) -> &Shard<F>
         ensures seen { (more : List Item) × (result.now ≡ with_items self.now.seen.shard more result.now.memory) × (self.now.stuck ≡ false → more ≡ []) }
         ensures number { self.now.seen.shard.number ≡ 0 }
         ensures in_place { AreInPlace 0 self.now.seen.shard.journal }
         ensures history { IsHistory self.now.seen.shard.editions self.now.seen.shard.base self.now.seen.shard.journal }
         ensures kept { KeepsLines self.now }
+        ensures memory { IsKeptBy true result.now }
     {
         self.desk.shard()
     }
@@ -168,7 +171,7 @@ impl<F: Fares, K: Keeper> KeptDesk<F, K> {
 
 /// Has a keeper do what has to be done before the answer that waits can be had.
 fn keep_waiting<F: Fares, K: Keeper>(
-    desk: &LocalDesk<F>,
+    desk: &LocalDesk<F, KeepsBlock>,
     keeper: &mut K,
     ticket: Ticket,
     command: Command,
@@ -188,7 +191,7 @@ fn keep_waiting<F: Fares, K: Keeper>(
 
 /// Does so for a command that a desk took. The reply to what cannot be kept is dropped.
 fn keep_or_drop<F: Fares, K: Keeper>(
-    desk: &mut LocalDesk<F>,
+    desk: &mut LocalDesk<F, KeepsBlock>,
     keeper: &mut K,
     ticket: Ticket,
     command: Command,
@@ -214,7 +217,7 @@ fn keep_or_drop<F: Fares, K: Keeper>(
 
 /// Hands a command to a desk, and has a keeper do what has to be done before its reply can be got.
 fn put_and_keep<F: Fares, K: Keeper>(
-    desk: &mut LocalDesk<F>,
+    desk: &mut LocalDesk<F, KeepsBlock>,
     keeper: &mut K,
     command: Command,
 ) -> Result<Ticket, DeskFault>
@@ -223,7 +226,7 @@ fn put_and_keep<F: Fares, K: Keeper>(
     ensures settled { OnOk result (is_quotes command ≡ true → K.IsSettled keeper.new) }
     ensures not_put { IfErr result (λ fault. IsNotPut (K.HasFailed keeper.new) fault command desk.old desk.new (K.holds keeper.old) (K.holds keeper.new)) }
 {
-    pay_shard::laws::put_then_get::<LocalDesk<F>>();
+    pay_shard::laws::put_then_get::<LocalDesk<F, KeepsBlock>>();
     let ticket = desk.put(command)?;
     match keep_or_drop(desk, keeper, ticket, command) {
         Ok(()) => Ok(ticket),

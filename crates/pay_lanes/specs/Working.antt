@@ -1,9 +1,8 @@
 -- What a lane and a worker keep.
-use Rattle.std.specs.Prelude.{◌≡◌, ℕ, ◌+◌, ◌<◌, ◌≤◌, ◌==◌, eqb, Bool, true, false, if◌then◌else◌, List, [], ◌∷◌, ◌++◌, All, length, map, Option, Some, None, IfSome, slice_get, ⊤}
+use Rattle.std.specs.Prelude.{◌≡◌, ℕ, ◌+◌, ◌<◌, ◌==◌, eqb, Bool, if◌then◌else◌, List, [], ◌∷◌, ◌++◌, All, length, map, Option, Some, None, IfSome, slice_get, ⊤}
 use Rattle.std.specs.List.{IsDistinct}
 use Rattle.pay_mailbox.specs.Words.{MailboxParts, SenderParts}
 use Rattle.pay_shard.specs.Words.{ShardParts, answers_given, item_of, with_item, IsAskedOf}
-use Rattle.pay_shard.specs.declared.limits.TheConstants.{BLOCK_ITEMS}
 use Rattle.pay_shard.specs.declared.item.Entry.{Entry}
 use Rattle.pay_shard.specs.declared.item.Item.{Item}
 use Rattle.pay_shard.specs.declared.reply.Answer.{Answer}
@@ -49,11 +48,6 @@ IsOfferable ways outgoing = (outgoing.lane < length ways) × IsSenderAt outgoing
 -- a shard of which this entry is the next item
 abbrev pub HasItem : ShardParts → Entry → ShardParts → Type 0
 HasItem before entry after = (refused : Bool) × (after ≡ with_item before (item_of entry refused) after.memory)
-
--- what a shard has of its journal in memory: all items, where its gate forgets none; else no more than a block of them, with the room for others
-abbrev pub IsKeptBy : Bool → ShardParts → Type 0
-IsKeptBy false s = s.memory.forgotten ≡ 0
-IsKeptBy true s = length s.journal + s.memory.room ≤ s.memory.forgotten + BLOCK_ITEMS
 
 -- a worker between its turns: what it popped is what its journal has, and each lane is told
 pub record IsWorking (w : WorkerParts) : Type 0 where

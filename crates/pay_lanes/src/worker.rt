@@ -1,12 +1,12 @@
 //! The worker of a shard.
 ghost use Rattle.std.specs.Prelude.{◌≡◌, ℕ, ◌<◌, ◌≤◌, false, IsTrue, [], None, Some, All, length, IfSome, OnSome, OnOk, OnErr, IfNone, vec_capacity};
 ghost use Rattle.pay_mailbox.specs.Words.{HasAll};
-ghost use Rattle.pay_shard.specs.Words.{ShardParts, with_memory};
+ghost use Rattle.pay_shard.specs.Words.{ShardParts, IsKeptBy};
 ghost use Rattle.pay_lanes.specs.Gates.{all_answered, IsGated};
 ghost use Rattle.pay_lanes.specs.Openings.{IsNewSender};
 ghost use Rattle.pay_lanes.specs.Parts.{sent_at, WasFullAt};
 ghost use Rattle.pay_lanes.specs.Turns.{by_lane, by_shard, HasDone, HasPoppedNone, IsHeldUp};
-ghost use Rattle.pay_lanes.specs.Working.{HasItem, IsOfferable, AreTold, mailboxes, IsSameWorker, IsKeptBy};
+ghost use Rattle.pay_lanes.specs.Working.{HasItem, IsOfferable, AreTold, mailboxes, IsSameWorker};
 ghost use Rattle.pay_lanes.specs.declared.limits.TheConstants.{MOST_JOURNALS};
 ghost use Rattle.pay_lanes.specs.declared.worker.Turn.TheVariants as turns;
 
@@ -17,7 +17,6 @@ use crate::sending::send_at;
 use pay_mailbox::{Inbox, Outbox};
 use pay_rules::Fares;
 use pay_shard::{Answer, Entry, Shard};
-use std::alloc::AllocError;
 use std::marker::Model;
 use std::sync::Wait;
 use std::time::Duration;
@@ -61,7 +60,8 @@ impl<F: Fares, G: Gate> Model for Worker<F, G> {
     ghost use Rattle.std.specs.Prelude.{◌≡◌, ◌≤◌, [], vec_capacity};
     ghost use Rattle.pay_lanes.specs.Gates.{IsGated};
     ghost use Rattle.pay_lanes.specs.Parts.{WorkerParts, worker_code};
-    ghost use Rattle.pay_lanes.specs.Working.{IsWorking, IsKeptBy};
+    ghost use Rattle.pay_lanes.specs.Working.{IsWorking};
+    ghost use Rattle.pay_shard.specs.Words.{IsKeptBy};
     ghost use Rattle.pay_lanes.specs.declared.limits.TheConstants.{MOST_JOURNALS};
 
     ghost Value = { WorkerParts };
@@ -77,19 +77,6 @@ impl<F: Fares, G: Gate> Model for Worker<F, G> {
         × (w.gates.items ≡ [])
         × (MOST_JOURNALS ≤ vec_capacity w.gates)
         × IsKeptBy G.forgets w.shard };
-}
-
-/// Makes room for one more item of the journal; where the gate forgets, in place of all that there are.
-fn make_room<F: Fares, G: Gate>(shard: &mut Shard<F>) -> Result<(), AllocError>
-    ensures same { shard.new ≡ with_memory shard.old shard.new.memory }
-    ensures ok { OnOk result (0 < shard.new.memory.room) }
-    ensures starved { OnErr result (shard.old.memory.room ≡ 0) }
-    ensures kept { IsKeptBy G.forgets shard.old → IsKeptBy G.forgets shard.new }
-{
-    if G::forgets() && shard.room() == 0 {
-        shard.forget();
-    }
-    shard.reserve(1)
 }
 
 /// Sends an answer to its lane. It comes back only if the lane's queue was full at one moment of the call.
@@ -237,7 +224,7 @@ impl<F: Fares, G: Gate> Worker<F, G> {
         if held.is_some() {
             return Turn::Held;
         }
-        if make_room::<F, G>(shard).is_err() {
+        if shard.make_room(G::forgets()).is_err() {
             return Turn::Starved;
         }
         let Some(entry) = requests.receive(rt) else {

@@ -6,6 +6,7 @@ pub mod Batches
 pub mod Blocks
 pub mod Counted
 pub mod FirstOnes
+pub mod InMemory
 pub mod JournalFronts
 pub mod Journals
 pub mod LocalDesks

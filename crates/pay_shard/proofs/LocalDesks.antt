@@ -12,7 +12,7 @@ use Rattle.pay_shard.specs.LocalParts.{commands_of, transcript_of, AreInPlace, A
 use Rattle.pay_shard.specs.Machine.{item_step}
 use Rattle.pay_shard.specs.Runs.{answer_at, answers_from}
 use Rattle.pay_shard.specs.JournalParts.{JournalMemory}
-use Rattle.pay_shard.specs.ShardParts.{ShardParts, answers_given, next_answer, item_of, with_item, with_memory}
+use Rattle.pay_shard.specs.ShardParts.{ShardParts, answers_given, next_answer, item_of, with_item, with_memory, IsKeptBy}
 use Rattle.pay_rules.specs.State.{State}
 use Rattle.pay_shard.specs.declared.item.Entry.{Entry}
 use Rattle.pay_shard.specs.declared.item.Item.{Item}
@@ -183,9 +183,9 @@ module _ (ticket : ℕ) where
       by true rest = distinct.1
       by false rest = (tickets_still (λ y. (y == a.ticket) ≡ false) answers distinct.0, rest)
 
-  pub local_still : (s : ShardParts) (answers left : List Answer) → IsLocal s answers → left ≡ answers_without ticket answers → IsLocal s left
-  local_still s answers left is same =
-      subst (IsLocal s) (sym same) (is.0, (all_still (λ (a : Answer). transcript_of s a.ticket ≡ Some a) answers is.1.0, distinct_still answers is.1.1))
+  pub local_still : (forgets : Bool) (s : ShardParts) (answers left : List Answer) → IsLocal forgets s answers → left ≡ answers_without ticket answers → IsLocal forgets s left
+  local_still forgets s answers left is same =
+      subst (IsLocal forgets s) (sym same) (is.0, (all_still (λ (a : Answer). transcript_of s a.ticket ≡ Some a) answers is.1.0, distinct_still answers is.1.1))
 
   none_left : (tickets : List ℕ) → AllByRecursion (λ y. (y == ticket) ≡ false) tickets → tickets ≡ without ticket tickets
   none_left [] off = refl
@@ -287,9 +287,9 @@ of_run_more : (s : ShardParts) (item : Item) (memory : JournalMemory) (answers :
 of_run_more s item memory [] of = tt
 of_run_more s item memory (a ∷ answers) of = (answers_kept s item memory a.ticket a of.0, of_run_more s item memory answers of.1)
 
-local_more : (s : ShardParts) (answers : List Answer) (entry : Entry) (mark : Bool) (memory : JournalMemory) → memory.forgotten ≡ 0 → IsLocal s answers → entry.lane ≡ 0 → entry.ticket ≡ length s.journal
-    → IsLocal (with_item s (item_of entry mark) memory) (answers ++ next_answer s (item_of entry mark) ∷ [])
-local_more s answers entry mark memory whole is lane ticket =
+local_more : (forgets : Bool) (s : ShardParts) (answers : List Answer) (entry : Entry) (mark : Bool) (memory : JournalMemory) → IsKeptBy forgets (with_item s (item_of entry mark) memory) → IsLocal forgets s answers → entry.lane ≡ 0 → entry.ticket ≡ length s.journal
+    → IsLocal forgets (with_item s (item_of entry mark) memory) (answers ++ next_answer s (item_of entry mark) ∷ [])
+local_more forgets s answers entry mark memory whole is lane ticket =
     let item = item_of entry mark in
     let answer = next_answer s item in
     let its = ap (transcript_of (with_item s item memory)) ticket ∙ next_stands s item memory in (
@@ -306,13 +306,13 @@ module _ (s reserved after : ShardParts) (entry : Entry) (mark : Bool) (memory l
   is_more : after ≡ with_item s (item_of entry mark) later_memory
   is_more = applied ∙ ap (λ t. with_item t (item_of entry mark) later_memory) same
 
-  pub local_after_put : (answers now later : List Answer) (answer : Answer) → later_memory.forgotten ≡ s.memory.forgotten → IsLocal s answers → entry.lane ≡ 0 → entry.ticket ≡ length reserved.journal
-      → answer ≡ next_answer reserved (item_of entry mark) → now ≡ answers → later ≡ now ++ answer ∷ [] → IsLocal after later
-  local_after_put answers now later answer kept_whole is lane ticket answered kept added =
+  pub local_after_put : (forgets : Bool) (answers now later : List Answer) (answer : Answer) → IsKeptBy forgets after → IsLocal forgets s answers → entry.lane ≡ 0 → entry.ticket ≡ length reserved.journal
+      → answer ≡ next_answer reserved (item_of entry mark) → now ≡ answers → later ≡ now ++ answer ∷ [] → IsLocal forgets after later
+  local_after_put forgets answers now later answer kept_whole is lane ticket answered kept added =
       let many = ap (λ (t : ShardParts). length t.journal) same in
       let as_kept : later ≡ answers ++ next_answer s (item_of entry mark) ∷ [] = added ∙ (λ i. kept i ++ (answered ∙ ap (λ t. next_answer t (item_of entry mark)) same) i ∷ []) in
-      let more = local_more s answers entry mark later_memory (kept_whole ∙ is.0.1) is lane (ticket ∙ many) in
-      subst (λ t. IsLocal t later) (sym is_more) (subst (IsLocal (with_item s (item_of entry mark) later_memory)) (sym as_kept) more)
+      let more = local_more forgets s answers entry mark later_memory (subst (IsKeptBy forgets) is_more kept_whole) is lane (ticket ∙ many) in
+      subst (λ t. IsLocal forgets t later) (sym is_more) (subst (IsLocal forgets (with_item s (item_of entry mark) later_memory)) (sym as_kept) more)
 
   pub taken_by_put : entry.lane ≡ 0 → entry.ticket ≡ length reserved.journal → (ticket : ℕ) → ticket ≡ entry.ticket → IsTaken ticket entry.command s after
   taken_by_put lane next ticket its =
@@ -332,6 +332,6 @@ module _ (s reserved after : ShardParts) (entry : Entry) (mark : Bool) (memory l
 
 -- ---- a desk begins
 
-pub local_new : (s : ShardParts) (answers : List Answer) → s.number ≡ 0 → s.memory.forgotten ≡ 0 → s.journal ≡ [] → answers ≡ [] → IsLocal s answers
+pub local_new : (s : ShardParts) (answers : List Answer) → s.number ≡ 0 → s.memory.forgotten ≡ 0 → s.journal ≡ [] → answers ≡ [] → IsLocal false s answers
 unfolding IsDistinct
-local_new s answers number whole journal none = subst (IsLocal s) (sym none) ((number, whole, subst (AreInPlace 0) (sym journal) tt), (tt, tt))
+local_new s answers number whole journal none = subst (IsLocal false s) (sym none) ((number, whole, subst (AreInPlace 0) (sym journal) tt), (tt, tt))

@@ -1,11 +1,11 @@
 -- What a desk over one shard keeps.
-use Rattle.std.specs.Prelude.{◌≡◌, ℕ, ◌+◌, ◌<◌, ◌==◌, cond, length, List, [], ◌∷◌, map, Option, Some, ⊤, refl}
+use Rattle.std.specs.Prelude.{◌≡◌, ℕ, ◌+◌, ◌<◌, ◌==◌, Bool, cond, length, List, [], ◌∷◌, map, Option, Some, ⊤, refl}
 use Rattle.std.specs.Coded.{Coded, code_by, coded×, coded_ℕ, coded_list}
 use Rattle.std.specs.List.{AllByRecursion, IsDistinct, slice_get}
 use Rattle.pay_tables.specs.Words.{FareEditions}
 use Rattle.pay_rules.specs.State.{State}
 use Rattle.pay_shard.specs.Desks.{DeskParts}
-use Rattle.pay_shard.specs.ShardParts.{ShardParts, shard_code, answers_given, next_answer, with_item}
+use Rattle.pay_shard.specs.ShardParts.{ShardParts, shard_code, answers_given, next_answer, with_item, IsKeptBy}
 use Rattle.pay_shard.specs.declared.asked.Asked.{Asked}
 use Rattle.pay_shard.specs.declared.desk.DeskFault.TheVariants.{Memory}
 use Rattle.pay_shard.specs.declared.item.Item.{Item}
@@ -72,6 +72,6 @@ abbrev pub answers_without : ℕ → List Answer → List Answer
 answers_without ticket [] = []
 answers_without ticket (answer ∷ answers) = cond (answer.ticket == ticket) answers (answer ∷ answers_without ticket answers)
 
--- what such a desk may keep: a shard of number 0 that has forgotten nothing, and answers to some of its tickets
-abbrev pub IsLocal : ShardParts → List Answer → Type 0
-IsLocal s answers = ((s.number ≡ 0) × (s.memory.forgotten ≡ 0) × AreInPlace 0 s.journal) × (AreOfRun s answers × AreDistinct (tickets_of answers))
+-- what such a desk may keep: a shard of number 0 with all of its journal in memory, or no more than a block, and answers to some of its tickets
+abbrev pub IsLocal : Bool → ShardParts → List Answer → Type 0
+IsLocal forgets s answers = ((s.number ≡ 0) × IsKeptBy forgets s × AreInPlace 0 s.journal) × (AreOfRun s answers × AreDistinct (tickets_of answers))

@@ -1,5 +1,5 @@
 -- What a shard keeps.
-use Rattle.std.specs.Prelude.{ℕ, List, ◌∷◌, [], ◌++◌, length, Bool, refl}
+use Rattle.std.specs.Prelude.{◌≡◌, ℕ, ◌+◌, ◌≤◌, List, ◌∷◌, [], ◌++◌, length, Bool, true, false, refl}
 use Rattle.std.specs.Coded.{Coded, code_by, coded×, coded_ℕ, coded_list}
 use Rattle.pay_tables.specs.EditionCodes.{fare_editions_code}
 use Rattle.pay_tables.specs.Words.{FareEditions}
@@ -7,6 +7,7 @@ use Rattle.pay_rules.specs.State.{State, state_code}
 use Rattle.pay_shard.specs.Runs.{replay, answer_at, answers}
 use Rattle.pay_shard.specs.JournalParts.{JournalMemory, journal_memory_code}
 use Rattle.pay_shard.specs.contracts.item.Item as item
+use Rattle.pay_shard.specs.declared.limits.TheConstants.{BLOCK_ITEMS}
 use Rattle.pay_shard.specs.declared.item.Item.{Item}
 use Rattle.pay_shard.specs.declared.item.Entry.{Entry}
 use Rattle.pay_shard.specs.declared.reply.Answer.{Answer}
@@ -55,3 +56,8 @@ with_item s item memory = record { number = s.number; editions = s.editions; bas
 -- and with this in memory alone
 abbrev pub with_memory : ShardParts → JournalMemory → ShardParts
 with_memory s memory = record { number = s.number; editions = s.editions; base = s.base; journal = s.journal; memory = memory }
+
+-- what it has of its journal in memory: all items, where it forgets none; else no more than a block of them, with the room for others
+abbrev pub IsKeptBy : Bool → ShardParts → Type 0
+IsKeptBy false s = s.memory.forgotten ≡ 0
+IsKeptBy true s = length s.journal + s.memory.room ≤ s.memory.forgotten + BLOCK_ITEMS

@@ -7,7 +7,7 @@ pub use Rattle.pay_shard.specs.Machine.{Step, step, item_step, is_memory, is_ref
 pub use Rattle.pay_shard.specs.Runs.{Run, run, replay, answer_at, answers_from, answers, reply_at, answer_to, IsMarkedRightly, IsHistory}
 pub use Rattle.pay_shard.specs.JournalParts.{JournalParts, JournalMemory, journal_code, all_in}
 unfoldable pub use Rattle.pay_shard.specs.Held.{state_of}
-pub use Rattle.pay_shard.specs.ShardParts.{ShardParts, shard_code, state_now, answers_given, next_answer, item_of, with_items, with_item, with_memory}
+pub use Rattle.pay_shard.specs.ShardParts.{ShardParts, shard_code, state_now, answers_given, next_answer, item_of, with_items, with_item, with_memory, IsKeptBy}
 pub use Rattle.pay_shard.specs.Changes.{is_priced, AreAllPriced, asked_by, AreUnmarked, accepted_asked}
 pub use Rattle.pay_shard.specs.Merges.{items_of, all_items, replies_of, IsAskedOf, AreAskedOf, IsWhole}
 pub use Rattle.pay_shard.specs.Desks.{Standing, with_waiting, DeskParts, IsForShards, IsAfterAll, IsNoneOf, without, command_under, IsReplyTo, NothingIsLost}

@@ -9,31 +9,33 @@ ghost use Rattle.pay_shard.specs.Held.{state_of};
 ghost use Rattle.pay_shard.specs.Desks.{with_waiting, without, IsForShards, IsAfterAll, IsNoneOf, IsReplyTo, NothingIsLost};
 ghost use Rattle.pay_shard.specs.declared.desk.DeskFault.TheVariants.{Late};
 ghost use Rattle.pay_shard.specs.LocalParts.{tickets_of, answers_without, transcript_of, desk_parts, AreInPlace, AreBelow, IsTaken};
-ghost use Rattle.pay_shard.specs.ShardParts.{with_memory};
+ghost use Rattle.pay_shard.specs.ShardParts.{with_memory, IsKeptBy};
 ghost use Rattle.pay_shard.specs.declared.reply.Answer.{Answer};
 
 use crate::command::Command;
 use crate::desk::{Desk, DeskFault};
 use crate::item::Entry;
+use crate::memory::{KeepsAll, KeepsBlock, Memory};
 use crate::reply::{Answer, Reply};
 use crate::shard::Shard;
 use crate::ticket::Ticket;
 use pay_rules::Fares;
 use pay_tables::Editions;
 use std::alloc::{AllocFailed, Global};
-use std::marker::Model;
+use std::marker::{Model, PhantomData};
 use std::sync::Arc;
 
-/// A desk over one shard, of number 0, which answers at once. A command's ticket is its place in the shard's journal. In a
-/// contract it is the shard, and the tickets whose replies were not got.
+/// A desk over one shard, of number 0, which answers at once. A command's ticket is its place in the shard's journal, of which it has
+/// all items in memory, or the last ones alone. In a contract it is the shard, and the tickets whose replies were not got.
 #[derive(Drop)]
-pub struct LocalDesk<F: Fares> {
+pub struct LocalDesk<F: Fares, M: Memory = KeepsAll> {
     shard: Shard<F>,
     // The answers that were not got.
     kept: Vec<Answer>,
+    memory: PhantomData<M>,
 }
 
-impl<F: Fares> Model for LocalDesk<F> {
+impl<F: Fares, M: Memory> Model for LocalDesk<F, M> {
     ghost use Rattle.pay_shard.specs.LocalParts.{LocalParts, local_code, tickets_of, IsLocal};
 
     ghost Value = { LocalParts };
@@ -42,7 +44,7 @@ impl<F: Fares> Model for LocalDesk<F> {
 
     ghost view = { λ d. record { shard = d.shard; waiting = tickets_of d.kept.items } };
 
-    ghost invariant = { λ d. IsLocal d.shard d.kept.items };
+    ghost invariant = { λ d. IsLocal M.forgets d.shard d.kept.items };
 }
 
 /// Where the first answer to a ticket stands.
@@ -71,7 +73,7 @@ fn take_out(kept: &mut Vec<Answer>, ticket: u64) -> Reply
     }
 }
 
-impl<F: Fares> LocalDesk<F> {
+impl<F: Fares> LocalDesk<F, KeepsAll> {
     /// A desk over a shard with an empty journal, which begins with accounts of distinct numbers from 1, each priced by this
     /// fare file. `Memory` gives the accounts back; a desk of none takes no memory.
     pub fn new(
@@ -92,16 +94,36 @@ impl<F: Fares> LocalDesk<F> {
         Ok(LocalDesk {
             shard,
             kept: Vec::new(alloc),
+            memory: PhantomData,
         })
     }
 
-    /// Its shard, which has forgotten nothing. Each entry of the journal is of lane 0, and its ticket is its place. Those that wait are
+    /// The same desk, which forgets all of its journal, and then has no more than a block of it in memory.
+    pub fn forgetting(self) -> LocalDesk<F, KeepsBlock>
+        ensures { result ≡ record { shard = with_memory self.shard (record { forgotten = length self.shard.journal; room = 0 }); waiting = self.waiting } }
+    {
+        let LocalDesk {
+            mut shard,
+            kept,
+            memory: _,
+        } = self;
+        shard.forget();
+        LocalDesk {
+            shard,
+            kept,
+            memory: PhantomData,
+        }
+    }
+}
+
+impl<F: Fares, M: Memory> LocalDesk<F, M> {
+    /// Its shard. Each entry of the journal is of lane 0, and its ticket is its place. Those that wait are
     /// places of it.
     #[tactic(auto, using(crate::proofs::LocalDesks::all_places))]
     pub fn shard(&self) -> &Shard<F>
         ensures value { result.now ≡ self.now.shard }
         ensures number { result.now.number ≡ 0 }
-        ensures whole { result.now.memory.forgotten ≡ 0 }
+        ensures kept { IsKeptBy M.forgets result.now }
         ensures in_place { AreInPlace 0 result.now.journal }
         ensures below { AreBelow (length result.now.journal) self.now.waiting }
     {
@@ -118,7 +140,7 @@ impl<F: Fares> LocalDesk<F> {
     }
 }
 
-impl<F: Fares> Desk for LocalDesk<F> {
+impl<F: Fares, M: Memory> Desk for LocalDesk<F, M> {
     ghost use Rattle.pay_tables.specs.Words.{FareEditions};
     ghost use Rattle.pay_rules.specs.State.{State};
     ghost use Rattle.pay_shard.specs.LocalParts.{desk_parts};
@@ -147,7 +169,7 @@ impl<F: Fares> Desk for LocalDesk<F> {
         ensures same { OnErr result (self.new.shard ≡ with_memory self.old.shard self.new.shard.memory) }
     {
         self.kept.reserve(1)?;
-        self.shard.reserve(1)?;
+        self.shard.make_room(M::forgets())?;
         let ticket = self.shard.journal().len() as u64;
         let entry = Entry {
             lane: 0,

@@ -1,4 +1,4 @@
-ghost use Rattle.std.specs.Prelude.{◌≡◌, ◌+◌, ◌-◌, ◌≤◌, ◌<◌, map as each, [], length, max, None, Some, IsOk, IfOk, IfErr, IfSome, IfNone, OnOk, OnErr, ◌++◌, ◌∷◌};
+ghost use Rattle.std.specs.Prelude.{Bool, ◌≡◌, ◌+◌, ◌-◌, ◌≤◌, ◌<◌, map as each, [], length, max, None, Some, IsOk, IfOk, IfErr, IfSome, IfNone, OnOk, OnErr, ◌++◌, ◌∷◌};
 ghost use Rattle.std.specs.Arc.{arc_value};
 ghost use Rattle.std.specs.FinMap as map;
 ghost use Rattle.std.specs.List.{IsDistinct};
@@ -9,7 +9,7 @@ ghost use Rattle.pay_shard.specs.declared.limits.TheConstants.{BLOCK_ITEMS};
 ghost use Rattle.pay_shard.specs.Held.{state_of};
 ghost use Rattle.pay_shard.specs.Machine.{is_memory};
 ghost use Rattle.pay_shard.specs.Runs.{IsHistory, IsMarkedRightly};
-ghost use Rattle.pay_shard.specs.ShardParts.{state_now, answers_given, next_answer, item_of, with_item, with_memory};
+ghost use Rattle.pay_shard.specs.ShardParts.{state_now, answers_given, next_answer, item_of, with_item, with_memory, IsKeptBy};
 
 use crate::accounts::Accounts;
 use crate::item::{Entry, Item};
@@ -130,6 +130,19 @@ impl<F: Fares> Shard<F> {
         self.journal.reserve(items)
     }
 
+    /// Makes room for one more item; where it forgets, in place of all that there are. An `Err` is out of memory.
+    pub fn make_room(&mut self, forgets: bool) -> Result<(), AllocError>
+        ensures same { self.new ≡ with_memory self.old self.new.memory }
+        ensures ok { OnOk result (0 < self.new.memory.room) }
+        ensures starved { OnErr result (self.old.memory.room ≡ 0) }
+        ensures kept { IsKeptBy forgets self.old → IsKeptBy forgets self.new }
+    {
+        if forgets && self.room() == 0 {
+            self.forget();
+        }
+        self.reserve(1)
+    }
+
     /// Forgets the items of the journal, whose memory is given back. The accounts are still their replay.
     pub fn forget(&mut self)
         ensures { self.new ≡ with_memory self.old (record { forgotten = length self.old.journal; room = 0 }) }
@@ -177,6 +190,7 @@ impl<F: Fares> Shard<F> {
         ensures journal { self.new ≡ with_item self.old (item_of entry (is_memory result.reply)) self.new.memory }
         ensures forgotten { self.new.memory.forgotten ≡ self.old.memory.forgotten }
         ensures room { self.new.memory.room ≡ self.old.memory.room - 1 }
+        ensures kept { (forgets : Bool) → IsKeptBy forgets self.old → IsKeptBy forgets self.new }
         ensures answer { result ≡ next_answer self.old (item_of entry (is_memory result.reply)) }
         ensures answers { answers_given self.new ≡ answers_given self.old ++ result ∷ [] }
         ensures refusals { IsMarkedRightly self.old.editions (state_now self.old) (item_of entry (is_memory result.reply)) }

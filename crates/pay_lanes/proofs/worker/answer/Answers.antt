@@ -2,16 +2,13 @@ use Rattle.std.proofs.Common.{ap}
 use Rattle.pay_shard.specs.Words.{item_of, is_memory}
 use Rattle.pay_lanes.proofs.Gated.{now_shut, now_passed}
 use Rattle.pay_lanes.proofs.Told.{now_held, offered, offered_mailboxes, answer_offerable, still_offerable}
-use Rattle.pay_lanes.proofs.InMemory.{item_kept}
 use Rattle.pay_lanes.proofs.worker.answer.Goals as goal
 
 pub returns-clause-kept : goal.returns-clause-kept
-returns-clause-kept g c is =
-    item_kept g.G.Gate.forgets c.args.shard.now c.apply-answer.new.self (item_of c.args.entry (is_memory c.apply-answer.result.reply)) (ap (λ s. s.journal) c.apply-answer.ensures.journal) c.apply-answer.ensures.forgotten c.apply-answer.ensures.room c.requires.room is
+returns-clause-kept g c = c.apply-answer.ensures.kept g.G.Gate.forgets
 
 pub returns-then-not-after_job-clause-kept : goal.returns-then-not-after_job-clause-kept
-returns-then-not-after_job-clause-kept g c is =
-    item_kept g.G.Gate.forgets c.args.shard.now c.apply-answer.new.self (item_of c.args.entry (is_memory c.apply-answer.result.reply)) (ap (λ s. s.journal) c.apply-answer.ensures.journal) c.apply-answer.ensures.forgotten c.apply-answer.ensures.room c.requires.room is
+returns-then-not-after_job-clause-kept g c = c.apply-answer.ensures.kept g.G.Gate.forgets
 
 pub offer-requires : goal.offer-requires
 offer-requires g c = answer_offerable c.args.shard.now c.args.lanes.now.items c.args.entry.lane c.apply-answer.result c.requires.lane c.requires.told (ap (λ a. a.shard) c.apply-answer.ensures.answer)

@@ -8,7 +8,7 @@ use Rattle.pay_shard.proofs.LocalDesks.{local_still, reply_to, reply_found, tick
 use Rattle.pay_shard.proofs.local_desk.LocalDeskDesk.get.Goals as goal
 
 pub invariant_of-self : goal.invariant_of-self
-invariant_of-self g c = local_still c.number.result c.self.inside.shard c.self.inside.kept.items c.take_out.new.kept.items c.self.invariant c.take_out.ensures.rest
+invariant_of-self g c = local_still c.number.result g.M.Memory.forgets c.self.inside.shard c.self.inside.kept.items c.take_out.new.kept.items c.self.invariant c.take_out.ensures.rest
 
 pub returns-clause-reply : goal.returns-clause-reply
 returns-clause-reply g c =
