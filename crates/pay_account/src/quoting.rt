@@ -42,18 +42,23 @@ fn with_fare(editions: &Editions, journey: Journey) -> (Journey, Pence)
     (journey, fare)
 }
 
-/// Each of some journeys beside its fare.
+/// Each of the journeys of the days from one through another, beside its fare.
 fn with_fares(
     alloc: Global,
     editions: &Editions,
     journeys: Vec<Journey>,
+    from: u32,
+    through: u32,
 ) -> Result<Vec<(Journey, Pence)>, AllocError>
-    ensures { IfOk result (λ list. list.items ≡ map (with_fare editions.now) journeys.items) }
+    ensures { IfOk result (λ list. list.items ≡ map (with_fare editions.now) (filter (is_within from through) journeys.items)) }
 {
-    journeys
-        .into_iter()
-        .map(|journey| with_fare(editions, journey))
-        .collect(alloc)
+    let mut list = Vec::with_capacity(alloc, journeys.len())?;
+    for journey in journeys {
+        if is_within(&journey, from, through) {
+            list.push(with_fare(editions, journey))?;
+        }
+    }
+    Ok(list)
 }
 
 /// The price of a day's week through that day, of all journeys.
@@ -77,7 +82,7 @@ pub fn price_through(editions: &Editions, journeys: &[Journey], through: u32) ->
 pub fn weights_through(
     alloc: Global,
     editions: &Editions,
-    mut journeys: Vec<Journey>,
+    journeys: Vec<Journey>,
     through: u32,
 ) -> Result<[u64; OPERATORS], AllocError>
     requires few { length journeys.items ≤ MOST_TOUCHES }
@@ -87,8 +92,7 @@ pub fn weights_through(
     ensures in_range { IfOk result (λ list. sum list ≤ MOST_MONEY) }
 {
     pay_week::fare_laws::fares_within(editions);
-    keep_days(&mut journeys, monday(through), through);
-    let list = with_fares(alloc, editions, journeys)?;
+    let list = with_fares(alloc, editions, journeys, monday(through), through)?;
     Ok(weights(editions.own(), &list))
 }
 

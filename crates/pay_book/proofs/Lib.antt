@@ -4,6 +4,7 @@ pub mod Sums
 pub mod Replacing
 pub mod Weeks
 pub mod Boarded
+pub mod ByMarks
 pub mod MarksOfTaps
 pub mod LastPaid
 pub mod AllJourneys

@@ -9,6 +9,7 @@ ghost use Rattle.pay_book.specs.Boardings.{boarded_after, IsDisturbed, is_paying
 ghost use Rattle.pay_book.specs.Fewer.{fewer_of};
 ghost use Rattle.pay_book.specs.Stretches.{with_later, Meet, HaveGoneOn};
 
+use crate::by_marks::item_at;
 use crate::journey_list::JourneyList;
 use pay_day::Moment;
 use pay_rules::{Journey, Touch};
@@ -222,15 +223,9 @@ pub(crate) fn mark(pays: &mut [bool], place: usize, boardings: &[Journey])
     }
 }
 
-/// The mark at a place.
-fn mark_at(pays: &[bool], place: usize) -> Option<bool>
-    ensures { result ≡ slice_get pays.now place }
-{
-    pays.get(place).copied()
-}
-
 /// Adds all boardings, each with its mark. An `Err` is out of memory.
 pub(crate) fn add_all(
+    alloc: Global,
     list: &mut Vec<Journey>,
     buses: &Timeline,
     pays: &[bool],
@@ -238,10 +233,10 @@ pub(crate) fn add_all(
     requires { length pays.now ≡ length buses.now.touches }
     ensures { OnOk result (list.new.items ≡ list.old.items ++ map boarding (zip buses.now.touches pays.now)) }
 {
-    list.reserve(buses.len())?;
-    let mut steps = Steps::new();
-    for place in 0..buses.len() {
-        let (Some(tap), Some(pays)) = (buses.at(place, &mut steps), mark_at(pays, place)) else {
+    let taps = buses.list(alloc)?;
+    list.reserve(taps.len())?;
+    for place in 0..taps.len() {
+        let (Some(tap), Some(pays)) = (item_at(&taps, place), item_at(pays, place)) else {
             unreachable!()
         };
         list.push(Journey::Bus { tap, pays })?;

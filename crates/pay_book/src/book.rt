@@ -108,8 +108,10 @@ impl Book {
         pay_fix::laws::own_numbers();
         self.account.taps().len();
         self.account.fixes().len();
-        let mut list = rail::all_journeys(self.alloc, editions, &self.held.rail)?;
-        boardings::add_all(&mut list, &self.held.buses, &self.held.pays)?;
+        pay_links::laws::kept_as_marks();
+        pay_links::laws::starts_are_local();
+        let mut list = rail::all_journeys(self.alloc, &self.held.rail, &self.held.starts)?;
+        boardings::add_all(self.alloc, &mut list, &self.held.buses, &self.held.pays)?;
         Ok(list)
     }
 

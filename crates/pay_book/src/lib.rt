@@ -3,6 +3,7 @@
 
 mod boardings;
 mod book;
+mod by_marks;
 mod day_sums;
 mod days;
 mod history;

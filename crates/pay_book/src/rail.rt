@@ -3,11 +3,13 @@ ghost use Rattle.std.specs.Prelude.{◌≡◌, ◌<◌, ◌≤◌, ◌+◌, ◌-
 ghost use Rattle.pay_taps.specs.Words.{place_of};
 ghost use Rattle.pay_rules.specs.Legs.{legs};
 ghost use Rattle.pay_links.specs.Words.{starts};
+ghost use Rattle.pay_links.specs.Starts.{journeys_by_marks};
 ghost use Rattle.pay_rules.specs.RailJourneys.{journeys};
 ghost use Rattle.pay_book.specs.Rail.{second_before, mark_in, AreMarkedElsewhere, taps_in, at_most_one, IsDisturbedBy};
 ghost use Rattle.pay_book.specs.Disturbed.{disturbed_by_rail};
 ghost use Rattle.pay_book.specs.Fewer.{fewer_of, more_of};
 
+use crate::by_marks::journeys_by_marks;
 use crate::stretch::{Stretch, stretch_around, tap_at};
 use pay_rules::{Journey, Touch};
 use pay_tables::Editions;
@@ -114,20 +116,17 @@ fn journeys_of(
     pay_links::journeys(alloc, editions.own(), &parts)
 }
 
-/// All journeys by rail. An `Err` is out of memory.
+/// All journeys by rail, as their marks give them back. An `Err` is out of memory.
 pub(crate) fn all_journeys(
     alloc: Global,
-    editions: &Editions,
     rail: &Timeline,
+    marks: &[bool],
 ) -> Result<Vec<Journey>, AllocError>
-    ensures { IfOk result (λ list. list.items ≡ journeys editions.now.own (legs editions.now rail.now.touches)) }
+    requires { length marks.now ≡ length rail.now.touches }
+    ensures { IfOk result (λ list. list.items ≡ journeys_by_marks marks.now rail.now.touches) }
 {
-    let stretch = Stretch {
-        from: 0,
-        to: rail.len(),
-    };
-    let taps = taps_of_stretch(alloc, rail, 0, false, &stretch, &mut Steps::new())?;
-    journeys_of(alloc, editions, &taps)
+    let taps = rail.list(alloc)?;
+    journeys_by_marks(alloc, marks, &taps)
 }
 
 /// The journeys that a rail tap changes as it enters, or as it leaves where it is there: what they are

@@ -1,4 +1,4 @@
-ghost use Rattle.std.specs.Prelude.{◌≡◌, ◌≤◌, ◌↔◌, suc, ◌∷◌, [], length, IsOk, OnOk, IsTrue, Some, slice_get};
+ghost use Rattle.std.specs.Prelude.{◌≡◌, ◌≤◌, ◌↔◌, suc, ◌∷◌, [], length, IsOk, IfOk, OnOk, IsTrue, Some, slice_get};
 ghost use Rattle.std.specs.List.{remove};
 ghost use Rattle.pay_rules.specs.Order.{comes_before, put_in, HaveOwnNumbers, IsInOrder};
 ghost use Rattle.pay_taps.specs.Timelines.{AreTimed, place_of, touch_before, counted};
@@ -72,6 +72,13 @@ impl Timeline {
         ensures { IsTrue result ↔ (self.now.touches ≡ []) }
     {
         self.touches.is_empty()
+    }
+
+    /// All taps, copied. An `Err` is out of memory.
+    pub fn list(&self, alloc: Global) -> Result<Vec<Touch>, AllocError>
+        ensures { IfOk result (λ taps. taps.items ≡ self.now.touches) }
+    {
+        self.touches.list(alloc)
     }
 
     /// Makes room for one more. An `Err` is out of memory.
