@@ -6,6 +6,7 @@ pub mod Fills
 pub mod InputLines
 pub mod InputPieces
 pub mod Newlines
+pub mod OneRequest
 pub mod OverDesk
 pub mod Pieces
 pub mod Ports

@@ -4,6 +4,7 @@ pub mod AtPorts
 pub mod AskedFor
 pub mod Calls
 pub mod Events
+pub mod OneRequest
 pub mod Pieces
 pub mod Ports
 pub mod Served

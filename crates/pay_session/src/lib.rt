@@ -1,5 +1,5 @@
 //! A session of lines: [`session`] answers those of a reader over any desk and any till. Its parts are there for whatever else reads
-//! lines: [`cut`], [`request_of`], [`asks_of`] and [`reply_of`]. `laws` says what the cutting of lines means, and `limits` how long a
+//! lines: [`cut`], [`request_of`], [`asks_of`], [`reply_of`] and [`answer`]. `laws` says what the cutting of lines means, and `limits` how long a
 //! session may last.
 #![tactic(auto)]
 
@@ -23,6 +23,6 @@ pub use cutting::cut;
 pub use known_reader::KnownReader;
 pub use port::{Port, Role, asks_at};
 pub use request::{Request, request_of};
-pub use service::{refusal_of_desk, reply_of, said};
+pub use service::{answer, refusal_of_desk, reply_of, said};
 pub use sessions::{Done, session};
 pub use stop::SessionFault;

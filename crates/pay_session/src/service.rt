@@ -4,8 +4,10 @@ ghost use Rattle.pay_day.specs.declared.limits.TheConstants.{FIRST_DAY, LAST_DAY
 ghost use Rattle.pay_shard.specs.Words.{NothingIsLost};
 ghost use Rattle.pay_session.specs.Asks.{IsOfAccount};
 ghost use Rattle.pay_session.specs.Events.{Event, refusal_of, refusal_of_desk, said};
+ghost use Rattle.pay_session.specs.Ports.{IsOpen};
 ghost use Rattle.pay_session.specs.Requests.{IsAsked};
 ghost use Rattle.pay_session.specs.Serving.{IsPutAt, IsCloseSaidAt};
+ghost use Rattle.pay_session.specs.OneRequest.{IsAnsweredIn};
 ghost use Rattle.pay_session.specs.SessionSteps.{IsAnswered};
 ghost use Rattle.pay_session.specs.declared.request.Request.{Request};
 
@@ -15,6 +17,7 @@ use crate::request::Request;
 use pay_shard::{Command, Desk, DeskFault};
 use pay_till::Till;
 use pay_wire::{Closed, Refusal, SpelledReply};
+use pay_zone::Zone;
 
 /// Answers requests, one after another.
 pub(crate) trait Answers: Drop {
@@ -66,6 +69,33 @@ impl<'a, D: Desk, T: Till> Answers for Service<'a, D, T> {
             Asks::No(why) => SpelledReply::No(why),
         }
     }
+}
+
+/// Answers one request by a desk and a till, where all may be asked for.
+pub fn answer<D: Desk, T: Till>(
+    request: Request,
+    zone: &Zone<'_>,
+    desk: &mut D,
+    till: &mut T,
+) -> SpelledReply
+    requires { IsAsked request }
+    ensures answered { IsAnsweredIn D.parts T.Closes zone.now request (desk.old, till.old) (desk.new, till.new) result }
+    ensures same_till { T.origin till.new ≡ T.origin till.old }
+{
+    answer_by(&mut Service::new(Port::open(zone), desk, till), request)
+}
+
+/// Answers one request at a port where all may be asked for.
+fn answer_by<D: Desk, T: Till>(service: &mut Service<'_, D, T>, request: Request) -> SpelledReply
+    requires open { IsOpen service.old.port.zone.now service.old.port }
+    requires asked { IsAsked request }
+    ensures desk_name { service.new.desk.ghost_name ≡ service.old.desk.ghost_name }
+    ensures till_name { service.new.till.ghost_name ≡ service.old.till.ghost_name }
+    ensures answered { IsAnsweredIn D.parts T.Closes service.old.port.zone.now request
+        (service.old.desk.now, service.old.till.now) (service.new.desk.now, service.new.till.now) result }
+    ensures same_till { T.origin service.new.till.now ≡ T.origin service.old.till.now }
+{
+    service.answer(request)
 }
 
 /// Hands a command to a desk and says its reply, as a line says it.
