@@ -12,4 +12,6 @@ pub fn own_lines_ask()
 /// Where all requests are accepted or repeats, the account's own alone give it what all of them give.
 pub fn own_are_enough()
     ensures { OwnAreEnough }
-{}
+{
+    pay_run::laws::own_requests();
+}

@@ -65,14 +65,14 @@ both_false true b h = absurd (true_false h)
 or_false : (a b : Bool) → a ≡ false → b ≡ false → (a || b) ≡ false
 or_false a b e f = ap (λ x. x || b) e ∙ f
 
-none_left : (back : List Item) → commands_of_items back ≡ [] → back ≡ []
+pub none_left : (back : List Item) → commands_of_items back ≡ [] → back ≡ []
 none_left [] e = refl
 none_left (item ∷ back) e = absurd (some e)
   where
     some : ◌≡◌ {A = List (ℕ × Asked)} (commands_of_items (item ∷ back)) [] → ⊥
     some e = cc
 
-stepped : (mark : Option Failure) (r : Request) (m : Machine) (s : Step) → step_asks mark m (asks_of m.zone r) ≡ s → step mark m r ≡ s
+pub stepped : (mark : Option Failure) (r : Request) (m : Machine) (s : Step) → step_asks mark m (asks_of m.zone r) ≡ s → step mark m r ≡ s
 unfolding step
 stepped mark r m s h = h
 

@@ -2,6 +2,7 @@ pub mod Journals
 pub mod Closes
 pub mod Tills
 pub mod LedgerCloses
+pub mod OneLine
 pub mod OneRequest
 pub mod AllRequests
 pub mod WholeRuns
@@ -13,3 +14,4 @@ pub mod NewRequests
 pub mod PastLines
 pub mod RequestLines
 pub mod WeekRuns
+pub mod OwnRequests

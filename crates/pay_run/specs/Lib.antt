@@ -5,7 +5,9 @@ pub mod Laws
 pub mod Ledgers
 pub mod LineRuns
 pub mod Machine
+pub mod OneLine
 pub mod Outcomes
+pub mod OwnRequests
 pub mod Past
 pub mod Week
 pub mod Words

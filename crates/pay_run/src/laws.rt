@@ -9,6 +9,7 @@ ghost use Rattle.pay_session.specs.declared.request.Request.{Request};
 ghost use Rattle.pay_run.specs.Machine.{Machine, Failure, refusal_of_command, stays, step};
 ghost use Rattle.pay_run.specs.Laws.{ZoneStays, EditionsStay, LedgerStays, FailedCloseTells, OthersNeverFail, FailuresLeaveAccounts, AskedAlikeEndsAlike, AcceptedAlikeEndsAlike};
 ghost use Rattle.pay_run.specs.Laws.{NewReplayAlone, NewStayNew, NewReplayInAnyOrder, CutLeavesFront, FrontReplaysAsCut, KeptGivesBack, KeptInAnyOrder};
+ghost use Rattle.pay_run.specs.OwnRequests.{OwnAlone};
 
 /// Where memory, the store, the desk or what keeps lines fails for a request, no tap and no correction is in the accounts, and
 /// nothing is posted. A command is then answered by `NO 48 NotKept` or `NO 90 Memory`, a close by what failed, and all else as ever.
@@ -64,6 +65,12 @@ pub fn journals()
     order_forgets_arrival();
     pay_shard::laws::accepted_alone();
 }
+
+/// The requests about an account are answered as they would be by themselves, and the account has accepted the same: over which others
+/// they were spread, and what was closed between them, makes no difference to it.
+pub fn own_requests()
+    ensures { OwnAlone }
+{}
 
 /// A machine keeps its zone and its fare file, and its ledger where each request is accepted, or was before.
 pub fn all_else_stays()
