@@ -1,0 +1,2 @@
+pub mod FollowedLines
+pub mod Replicas

@@ -1,0 +1,4 @@
+pub mod Partitions
+pub mod Following
+pub mod Laws
+pub mod Words
