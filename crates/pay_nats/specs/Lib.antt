@@ -1,0 +1,17 @@
+pub mod AckReading
+pub mod Acks
+pub mod Faults
+pub mod Frames
+pub mod HeaderReading
+pub mod Headers
+pub mod Laws
+pub mod Lines
+pub mod Numerals
+pub mod Parts
+pub mod Reading
+pub mod Requests
+pub mod Rows
+pub mod Seen
+pub mod SeenParts
+pub mod Subjects
+pub mod Words
