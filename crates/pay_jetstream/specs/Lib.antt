@@ -1,0 +1,4 @@
+pub mod Given
+pub mod Said
+pub mod StreamParts
+pub mod Taken
