@@ -9,18 +9,19 @@ use Rattle.pay_dates.specs.Words.{day_of_text}
 use Rattle.pay_dates.specs.Laws.{BeginWithNoHyphen}
 use Rattle.pay_words.specs.OneWord.{is_account}
 use Rattle.std.proofs.lemmas.Bool.Decides.{eqb_tells}
-use Rattle.pay_words.specs.Asked.{AreAuditWords, AreCheckWords, AreExplainWords, ArePageWords, AreRunWords, AreServeWords, AreStatementWords, Asked, HaveNoHyphens, Word, allowed, asked, many_by, many_given, word_kind, words_ask, option_asked, program_asked}
-use Rattle.pay_words.specs.Asked.{audit, audit_asked, audit_of, explain, explain_asked, explain_of, page, page_asked, page_of, rebuild, rebuild_asked, rebuild_of}
+use Rattle.pay_words.specs.Asked.{AreAuditWords, AreCheckWords, AreExplainWords, AreFollowWords, ArePageWords, AreRunWords, AreServeWords, AreStatementWords, Asked, HaveNoHyphens, Word, allowed, asked, many_by, many_given, word_kind, words_ask, option_asked, program_asked}
+use Rattle.pay_words.specs.Asked.{audit, audit_asked, audit_of, explain, explain_asked, explain_of, follow, follow_asked, follow_of, page, page_asked, page_of, rebuild, rebuild_asked, rebuild_of}
 use Rattle.pay_words.specs.Asked.{check, check_asked, check_of, replay, replay_asked, run, run_asked, run_of, serve, serve_asked, serve_of, statement, statement_asked, statement_of}
 use Rattle.pay_words.specs.Asked.{Given, with_value, values, help, refused, without_dashes}
 use Rattle.pay_words.specs.Asked as words
 use Rattle.pay_words.specs.Options as say
 use Rattle.pay_words.specs.Options.{AreParts, IsOption, Part, Said, Setting, StandApart, all_of, all_said, flag_value, help_wanted, is_flag, not_taken, plain_words, reader_of, values_of, words_of_parts}
 use Rattle.pay_words.specs.Options.{port_option, lanes_option, shards_option, sessions_option, close_option, control_option, ahead_option, refused_option, greeting_option, journal_option, sync_option, ledger_option, early_option}
-use Rattle.pay_words.specs.Options.{lint_option, against_option, after_option, week_option, staff_option, long_option}
+use Rattle.pay_words.specs.Options.{lint_option, against_option, after_option, week_option, staff_option, long_option, log_option, partition_option, of_option, replicas_option}
 use Rattle.pay_words.specs.Audit.{AreAuditParts, Audit, audit_grammar}
 use Rattle.pay_words.specs.Check.{AreCheckParts, CheckTexts, check_grammar, check_of_texts, may_check}
 use Rattle.pay_words.specs.Explain.{AreExplainParts, ExplainTexts, explain_grammar, explain_of_texts}
+use Rattle.pay_words.specs.Follow.{AreFollowNumbers, AreFollowParts, FollowTexts, follow_grammar, follow_of_texts, may_follow}
 use Rattle.pay_words.specs.Page.{ArePageParts, ArePorts, PageTexts, may_show, page_grammar, page_of_texts}
 use Rattle.pay_words.specs.Rebuild.{rebuild_grammar}
 use Rattle.pay_words.specs.Run.{AreRunParts, Run, first_given, flags, has_journal, is_given, listed, run_grammar}
@@ -37,6 +38,7 @@ use Rattle.pay_words.proofs.WordSteps.{stand}
 use Rattle.pay_words.proofs.WordsAfterAudit.{audit_apart, audit_built, audit_rules, audit_shape}
 use Rattle.pay_words.proofs.WordsAfterCheck.{check_apart, check_built, check_rules, check_shape}
 use Rattle.pay_words.proofs.WordsAfterExplain.{explain_apart, explain_built, explain_rules, explain_shape}
+use Rattle.pay_words.proofs.WordsAfterFollow.{follow_apart, follow_built, follow_rules, follow_shape}
 use Rattle.pay_words.proofs.WordsAfterOptions.{Comes, Places, Under, ends}
 use Rattle.pay_words.proofs.WordsAfterPage.{page_apart, page_built, page_rules, page_shape}
 use Rattle.pay_words.proofs.WordsAfterRebuild.{rebuild_apart, rebuild_built, rebuild_rules}
@@ -89,6 +91,7 @@ AreWordsOf (replay a b files) ws = (without_dashes ws ≡ codes "replay" ∷ a �
 AreWordsOf (serve s) ws = AreServeWords s (without_dashes ws)
 AreWordsOf (audit a) ws = AreAuditWords a (without_dashes ws)
 AreWordsOf (rebuild fares ledger) ws = without_dashes ws ≡ codes "rebuild" ∷ fares ∷ ledger ∷ []
+AreWordsOf (follow f) ws = AreFollowWords f (without_dashes ws)
 AreWordsOf _ ws = ⊤
 
 -- what an option was given is the one value that it has, if it has one
@@ -441,6 +444,43 @@ after_rebuild rest = go (all_said rebuild_grammar rest) (says rebuild_grammar (c
     go help_wanted s = tt
     go not_taken s = tt
 
+after_follow : (rest : List Text) → AreWordsOf (follow_asked (all_said follow_grammar rest)) (codes "follow" ∷ rest)
+after_follow rest = go (all_said follow_grammar rest) (Level follow_shape [] (stand [] None idle 1 false) rest false []) (rows_from follow_shape [] (stand [] None idle 1 false) rest)
+    (says follow_grammar (codes "follow") follow_rules follow_built follow_apart rest) (ends follow_grammar (codes "follow") follow_rules follow_built follow_apart rest)
+  where
+    made : (parts : List Part) (had : List Row) → Says follow_grammar (codes "follow") follow_rules follow_built follow_apart (all_of parts) (without_dashes rest)
+        → ((k : Setting) → Under had k (values_of k parts)) → (vs us ps ns ls : List Text) → plain_words parts ≡ vs → values_of log_option parts ≡ us → values_of partition_option parts ≡ ps
+        → values_of of_option parts ≡ ns → values_of ledger_option parts ≡ ls → AreWordsOf (follow_of vs us ps ns ls) (codes "follow" ∷ rest)
+    made parts had s under [] us ps ns ls is u p n l = tt
+    made parts had s under (a ∷ []) us ps ns ls is u p n l = tt
+    made parts had s under (a ∷ b ∷ c ∷ more) us ps ns ls is u p n l = tt
+    made parts had s under (a ∷ b ∷ []) [] ps ns ls is u p n l = tt
+    made parts had s under (a ∷ b ∷ []) (uw ∷ v ∷ more) ps ns ls is u p n l = tt
+    made parts had s under (a ∷ b ∷ []) (uw ∷ []) [] ns ls is u p n l = tt
+    made parts had s under (a ∷ b ∷ []) (uw ∷ []) (pw ∷ v ∷ more) ns ls is u p n l = tt
+    made parts had s under (a ∷ b ∷ []) (uw ∷ []) (pw ∷ []) [] ls is u p n l = tt
+    made parts had s under (a ∷ b ∷ []) (uw ∷ []) (pw ∷ []) (nw ∷ v ∷ more) ls is u p n l = tt
+    made parts had s under (a ∷ b ∷ []) (uw ∷ []) (pw ∷ []) (nw ∷ []) [] is u p n l = tt
+    made parts had s under (a ∷ b ∷ []) (uw ∷ []) (pw ∷ []) (nw ∷ []) (lw ∷ v ∷ more) is u p n l = tt
+    made parts had s under (a ∷ b ∷ []) (uw ∷ []) (pw ∷ []) (nw ∷ []) (lw ∷ []) is u p n l = (
+      record { fares = a; zone = b; log = uw; partition = pw; of = nw; ledger = lw },
+      parts,
+      ap (λ (l : List Text). codes "follow" ∷ l) s.0,
+      (s.1, is, u, p, n, l),
+      (
+        under_fits had partition_option (values_of partition_option parts) pw p (under partition_option),
+        under_fits had of_option (values_of of_option parts) nw n (under of_option),
+      ),
+      refl,
+    )
+
+    go : (x : Said) (ks : Kinds) (rows : List Row) → Says follow_grammar (codes "follow") follow_rules follow_built follow_apart x (without_dashes rest)
+        → Comes follow_grammar (codes "follow") follow_rules follow_built follow_apart x ks rows → AreWordsOf (follow_asked x) (codes "follow" ∷ rest)
+    go (all_of parts) ks rows s h = made parts h.0 s h.1.2 (plain_words parts) (values_of log_option parts) (values_of partition_option parts) (values_of of_option parts) (values_of ledger_option parts)
+        refl refl refl refl refl
+    go help_wanted ks rows s h = tt
+    go not_taken ks rows s h = tt
+
 after_other : (k : Word) (ws : List Text) → AreWordsOf (option_asked k) ws
 after_other words.value ws = tt
 after_other words.dashes ws = tt
@@ -483,6 +523,11 @@ allowed_too (serve s) ws h = go (is_whole s) refl
     go false is = rw is tt
 allowed_too (audit a) ws h = h
 allowed_too (rebuild fares ledger) ws h = h
+allowed_too (follow f) ws h = go (may_follow f) refl
+  where
+    go : (fits : Bool) → may_follow f ≡ fits → AreWordsOf (allowed (follow f)) ws
+    go true is = rw is h
+    go false is = rw is tt
 allowed_too words.help_asked ws h = tt
 allowed_too words.help_named ws h = tt
 allowed_too words.version_asked ws h = tt
@@ -491,8 +536,8 @@ allowed_too words.usage ws h = tt
 said_in_order : (ws : List Text) → AreWordsOf (words_ask ws) (drop 1 ws)
 said_in_order [] = tt
 said_in_order (name ∷ []) = tt
-said_in_order (name ∷ word ∷ rest) = by_program (λ (w : Text). AreWordsOf (program_asked w rest) (w ∷ rest)) word (after_run rest) (after_check rest) (after_statement rest) (after_explain rest) (after_page rest) (after_replay rest) (after_serve rest) (after_audit rest) (after_rebuild rest) tt
-    (λ none. rw (none.0, none.1, none.2, none.3, none.4, none.5, none.6, none.7, none.8, none.9) (after_other (word_kind word) (word ∷ rest)))
+said_in_order (name ∷ word ∷ rest) = by_program (λ (w : Text). AreWordsOf (program_asked w rest) (w ∷ rest)) word (after_run rest) (after_check rest) (after_statement rest) (after_explain rest) (after_page rest) (after_replay rest) (after_serve rest) (after_audit rest) (after_rebuild rest) (after_follow rest) tt
+    (λ none. rw (none.0, none.1, none.2, none.3, none.4, none.5, none.6, none.7, none.8, none.9, none.10) (after_other (word_kind word) (word ∷ rest)))
 
 -- but for the first, and for a `--`, the words are those of the job
 pub in_order : (ws : List Text) → AreWordsOf (asked ws) (drop 1 ws)
@@ -553,6 +598,10 @@ module _ (r : Run) (parts : List Part) (are : AreRunParts r parts) where
   run_once week_option = none_of_run week_option (λ e. cc)
   run_once staff_option = none_of_run staff_option (λ e. cc)
   run_once long_option = none_of_run long_option (λ e. cc)
+  run_once log_option = none_of_run log_option (λ e. cc)
+  run_once partition_option = none_of_run partition_option (λ e. cc)
+  run_once of_option = none_of_run of_option (λ e. cc)
+  run_once replicas_option = none_of_run replicas_option (λ e. cc)
 
   run_taken : slice_index r.fares 0 ≢ 45 → slice_index r.zone 0 ≢ 45 → AreTaken run_grammar parts
   run_taken f z = record {
@@ -607,6 +656,10 @@ module _ (t : CheckTexts) (parts : List Part) (are : AreCheckParts t parts) wher
   check_once week_option = none_of_check week_option (λ e. cc)
   check_once staff_option = none_of_check staff_option (λ e. cc)
   check_once long_option = none_of_check long_option (λ e. cc)
+  check_once log_option = none_of_check log_option (λ e. cc)
+  check_once partition_option = none_of_check partition_option (λ e. cc)
+  check_once of_option = none_of_check of_option (λ e. cc)
+  check_once replicas_option = none_of_check replicas_option (λ e. cc)
 
   check_taken : slice_index t.fares 0 ≢ 45 → AreTaken check_grammar parts
   check_taken f = record {
@@ -648,6 +701,10 @@ module _ (t : StatementTexts) (parts : List Part) (are : AreStatementParts t par
   statement_once week_option = none_of_statement week_option (λ e. cc)
   statement_once staff_option = none_of_statement staff_option (λ e. cc)
   statement_once long_option = subst (Once long_option) (sym are.4) (once_flags long_option refl t.long)
+  statement_once log_option = none_of_statement log_option (λ e. cc)
+  statement_once partition_option = none_of_statement partition_option (λ e. cc)
+  statement_once of_option = none_of_statement of_option (λ e. cc)
+  statement_once replicas_option = none_of_statement replicas_option (λ e. cc)
 
   statement_taken : slice_index t.fares 0 ≢ 45 → slice_index t.zone 0 ≢ 45 → is_account t.account ≡ true → slice_index t.day 0 ≢ 45 → AreTaken statement_grammar parts
   statement_taken f z n d = record {
@@ -694,6 +751,10 @@ module _ (t : ExplainTexts) (parts : List Part) (are : AreExplainParts t parts) 
   explain_once week_option = subst (Once week_option) (sym are.4) (once_flags week_option refl t.week)
   explain_once staff_option = none_of_explain staff_option (λ e. cc)
   explain_once long_option = none_of_explain long_option (λ e. cc)
+  explain_once log_option = none_of_explain log_option (λ e. cc)
+  explain_once partition_option = none_of_explain partition_option (λ e. cc)
+  explain_once of_option = none_of_explain of_option (λ e. cc)
+  explain_once replicas_option = none_of_explain replicas_option (λ e. cc)
 
   explain_taken : slice_index t.fares 0 ≢ 45 → slice_index t.zone 0 ≢ 45 → is_account t.account ≡ true → slice_index t.day 0 ≢ 45 → AreTaken explain_grammar parts
   explain_taken f z n d = record {
@@ -736,6 +797,10 @@ module _ (t : PageTexts) (parts : List Part) (are : ArePageParts t parts) (fits 
   page_once week_option = none_of_page week_option (λ e. cc)
   page_once staff_option = subst (Once staff_option) (sym are.6) (once_listed staff_option t.staff (λ v. refl))
   page_once long_option = none_of_page long_option (λ e. cc)
+  page_once log_option = none_of_page log_option (λ e. cc)
+  page_once partition_option = none_of_page partition_option (λ e. cc)
+  page_once of_option = none_of_page of_option (λ e. cc)
+  page_once replicas_option = none_of_page replicas_option (λ e. cc)
 
   page_taken : slice_index t.fares 0 ≢ 45 → slice_index t.zone 0 ≢ 45 → AreTaken page_grammar parts
   page_taken f z = record {
@@ -785,6 +850,10 @@ module _ (t : ServeTexts) (parts : List Part) (are : ArePartsOf t parts) (fits :
   serve_once week_option = none_of_serve week_option (λ e. cc)
   serve_once staff_option = none_of_serve staff_option (λ e. cc)
   serve_once long_option = none_of_serve long_option (λ e. cc)
+  serve_once log_option = none_of_serve log_option (λ e. cc)
+  serve_once partition_option = none_of_serve partition_option (λ e. cc)
+  serve_once of_option = none_of_serve of_option (λ e. cc)
+  serve_once replicas_option = none_of_serve replicas_option (λ e. cc)
   serve_once ledger_option = subst (Once ledger_option) (sym are.5) (once_listed ledger_option t.ledger (λ v. refl))
   serve_once early_option = subst (Once early_option) (sym are.6) (once_flags early_option refl t.early)
 
@@ -851,6 +920,10 @@ module _ (a : Audit) (parts : List Part) (are : AreAuditParts a parts) where
   audit_once week_option = none_of_audit week_option (λ e. cc)
   audit_once staff_option = none_of_audit staff_option (λ e. cc)
   audit_once long_option = none_of_audit long_option (λ e. cc)
+  audit_once log_option = none_of_audit log_option (λ e. cc)
+  audit_once partition_option = none_of_audit partition_option (λ e. cc)
+  audit_once of_option = none_of_audit of_option (λ e. cc)
+  audit_once replicas_option = none_of_audit replicas_option (λ e. cc)
 
   audit_taken : slice_index a.fares 0 ≢ 45 → slice_index a.zone 0 ≢ 45 → AreTaken audit_grammar parts
   audit_taken f z = record {
@@ -874,3 +947,49 @@ asks_rebuild ws name fares ledger is f l =
     let parts : List Part = say.plain fares ∷ say.plain ledger ∷ [] in
     let taken : AreTaken rebuild_grammar parts = record { are = (tt, (tt, tt)); fits = (refl, (refl, tt)); hyphens = (f, (l, tt)); once = λ k. tt } in
     ap asked is ∙ ap (λ (x : Said). allowed (rebuild_asked x)) (parts_taken rebuild_grammar parts taken tt)
+
+module _ (t : FollowTexts) (parts : List Part) (are : AreFollowParts t parts) (fits : AreFollowNumbers t) where
+  none_of_follow : (k : Setting) → (IsOption follow_grammar k → ⊥) → Once k (values_of k parts)
+  none_of_follow k none = subst (Once k) (sym (no_values follow_grammar k none parts are.0)) tt
+
+  follow_once : (k : Setting) → Once k (values_of k parts)
+  follow_once port_option = none_of_follow port_option (λ e. cc)
+  follow_once lanes_option = none_of_follow lanes_option (λ e. cc)
+  follow_once shards_option = none_of_follow shards_option (λ e. cc)
+  follow_once sessions_option = none_of_follow sessions_option (λ e. cc)
+  follow_once close_option = none_of_follow close_option (λ e. cc)
+  follow_once control_option = none_of_follow control_option (λ e. cc)
+  follow_once ahead_option = none_of_follow ahead_option (λ e. cc)
+  follow_once refused_option = none_of_follow refused_option (λ e. cc)
+  follow_once greeting_option = none_of_follow greeting_option (λ e. cc)
+  follow_once journal_option = none_of_follow journal_option (λ e. cc)
+  follow_once sync_option = none_of_follow sync_option (λ e. cc)
+  follow_once ledger_option = subst (Once ledger_option) (sym are.5) refl
+  follow_once early_option = none_of_follow early_option (λ e. cc)
+  follow_once lint_option = none_of_follow lint_option (λ e. cc)
+  follow_once against_option = none_of_follow against_option (λ e. cc)
+  follow_once after_option = none_of_follow after_option (λ e. cc)
+  follow_once week_option = none_of_follow week_option (λ e. cc)
+  follow_once staff_option = none_of_follow staff_option (λ e. cc)
+  follow_once long_option = none_of_follow long_option (λ e. cc)
+  follow_once log_option = subst (Once log_option) (sym are.2) refl
+  follow_once partition_option = subst (Once partition_option) (sym are.3) fits.0
+  follow_once of_option = subst (Once of_option) (sym are.4) fits.1
+  follow_once replicas_option = none_of_follow replicas_option (λ e. cc)
+
+  follow_taken : slice_index t.fares 0 ≢ 45 → slice_index t.zone 0 ≢ 45 → AreTaken follow_grammar parts
+  follow_taken f z = record {
+    are = are.0;
+    fits = subst (Fits follow_grammar.places) (sym are.1) (refl, (refl, tt));
+    hyphens = subst HaveNoHyphens (sym are.1) (f, (z, tt));
+    once = follow_once;
+  }
+
+  follow_is : follow_asked (all_of parts) ≡ follow (follow_of_texts t)
+  follow_is = rw (are.1, are.2, are.3, are.4, are.5) refl
+
+pub asks_follow : (ws : List Text) (name : Text) (t : FollowTexts) (parts : List Part) → ws ≡ name ∷ codes "follow" ∷ words_of_parts parts → AreFollowParts t parts → StandApart parts
+    → slice_index t.fares 0 ≢ 45 → slice_index t.zone 0 ≢ 45 → AreFollowNumbers t → may_follow (follow_of_texts t) ≡ true → asked ws ≡ follow (follow_of_texts t)
+asks_follow ws name t parts is are may f z fits follows = ap asked is
+    ∙ (ap (λ (x : Said). allowed (follow_asked x)) (parts_taken follow_grammar parts (follow_taken t parts are fits f z) may)
+    ∙ (ap allowed (follow_is t parts are fits) ∙ (rw follows refl)))

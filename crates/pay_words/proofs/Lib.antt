@@ -1,4 +1,5 @@
 mod JobWords
+mod NodePorts
 mod Numbers
 mod OptionEnds
 mod OptionParts
@@ -14,6 +15,7 @@ mod WordSteps
 mod WordsAfterAudit
 mod WordsAfterCheck
 mod WordsAfterExplain
+mod WordsAfterFollow
 mod WordsAfterOptions
 mod WordsAfterPage
 mod WordsAfterRebuild

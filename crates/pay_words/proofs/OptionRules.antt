@@ -16,8 +16,8 @@ use Rattle.clap.specs.declared.builder.value_parser.ValueParser.TheVariants as v
 use Rattle.clap.specs.declared.builder.value_parser.Reading.TheVariants as reading
 use Rattle.pay_words.specs.Options.{Grammar, Place, Setting, flag_value, is_flag, name_of, place_after, place_reader, reader_of, setting_named}
 use Rattle.pay_words.specs.Options.{port_option, lanes_option, shards_option, sessions_option, close_option, control_option, ahead_option, refused_option, greeting_option, journal_option, sync_option, ledger_option, early_option}
-use Rattle.pay_words.specs.Options.{lint_option, against_option, after_option, week_option, staff_option, long_option}
-use Rattle.pay_words.specs.Options.{fares_place, zone_place, account_place, day_place, ledger_place}
+use Rattle.pay_words.specs.Options.{lint_option, against_option, after_option, week_option, staff_option, long_option, log_option, partition_option, of_option, replicas_option}
+use Rattle.pay_words.specs.Options.{fares_place, zone_place, account_place, day_place, ledger_place, action_place, second_fares_place, third_zone_place}
 use Rattle.pay_words.proofs.OptionRows.{a_row, found, no_row, row_added, row_with}
 use Rattle.pay_words.proofs.WordKinds.{LongOptionsBut, Refuses, ShortOptions, help_filled, is_refusal, same_bytes}
 use Rattle.pay_words.proofs.WordsOfProgram.{one_value, place_rule}
@@ -30,6 +30,9 @@ place_name zone_place = codes "ZONE"
 place_name account_place = codes "ACCOUNT"
 place_name day_place = codes "DAY"
 place_name ledger_place = codes "LEDGER"
+place_name action_place = codes "ACTION"
+place_name second_fares_place = codes "FARES"
+place_name third_zone_place = codes "ZONE"
 
 -- where it stands, in each program that has it
 abbrev place_index : Place → ℕ
@@ -38,6 +41,9 @@ place_index zone_place = 2
 place_index account_place = 3
 place_index day_place = 4
 place_index ledger_place = 2
+place_index action_place = 1
+place_index second_fares_place = 2
+place_index third_zone_place = 3
 
 abbrev place_parser : Place → ValueParser
 place_parser fares_place = vp.String
@@ -45,6 +51,9 @@ place_parser zone_place = vp.String
 place_parser account_place = vp.Unsigned 1 4_294_967_295
 place_parser day_place = vp.String
 place_parser ledger_place = vp.String
+place_parser action_place = vp.String
+place_parser second_fares_place = vp.String
+place_parser third_zone_place = vp.String
 
 -- as the build fills it in
 abbrev pub rule_at : Place → Rule
@@ -56,6 +65,9 @@ place_reads zone_place word = refl
 place_reads account_place word = refl
 place_reads day_place word = refl
 place_reads ledger_place word = refl
+place_reads action_place word = refl
+place_reads second_fares_place word = refl
+place_reads third_zone_place word = refl
 
 place_reading : (p : Place) → reading_by (rule_at p) ≡ reading.AsWritten
 place_reading fares_place = refl
@@ -63,6 +75,9 @@ place_reading zone_place = refl
 place_reading account_place = refl
 place_reading day_place = refl
 place_reading ledger_place = refl
+place_reading action_place = refl
+place_reading second_fares_place = refl
+place_reading third_zone_place = refl
 
 -- ---- options
 
@@ -86,6 +101,10 @@ parser_for after_option = vp.String
 parser_for week_option = vp.Bool
 parser_for staff_option = vp.String
 parser_for long_option = vp.Bool
+parser_for log_option = vp.String
+parser_for partition_option = vp.Unsigned 0 15
+parser_for of_option = vp.Unsigned 1 16
+parser_for replicas_option = vp.Unsigned 1 5
 
 -- the options that a program needs
 abbrev pub Needs : Type 0
@@ -112,6 +131,10 @@ is_needed after_option = false
 is_needed week_option = false
 is_needed staff_option = false
 is_needed long_option = false
+is_needed log_option = false
+is_needed partition_option = false
+is_needed of_option = false
+is_needed replicas_option = false
 
 abbrev no_values : ValueRange
 no_values = record { start_inclusive = 0; end_inclusive = 0 }
@@ -149,6 +172,10 @@ option_reads after_option word value = refl
 option_reads week_option word value = cc
 option_reads staff_option word value = refl
 option_reads long_option word value = cc
+option_reads log_option word value = refl
+option_reads partition_option word value = refl
+option_reads of_option word value = refl
+option_reads replicas_option word value = refl
 
 pub option_reading : (needed : Bool) (k : Setting) → reading_by (setting_rule needed k) ≡ reading.AsWritten
 option_reading needed port_option = refl
@@ -170,6 +197,10 @@ option_reading needed after_option = refl
 option_reading needed week_option = refl
 option_reading needed staff_option = refl
 option_reading needed long_option = refl
+option_reading needed log_option = refl
+option_reading needed partition_option = refl
+option_reading needed of_option = refl
+option_reading needed replicas_option = refl
 
 -- ---- names
 
@@ -193,6 +224,10 @@ same_name after_option = refl
 same_name week_option = refl
 same_name staff_option = refl
 same_name long_option = refl
+same_name log_option = refl
+same_name partition_option = refl
+same_name of_option = refl
+same_name replicas_option = refl
 
 -- options of one name are one
 pub same_setting : (j k : Setting) → (j ≡ k) ⊎ (bytes_eq (name_of j) (name_of k) ≡ false)
@@ -215,6 +250,10 @@ same_setting after_option after_option = inl refl
 same_setting week_option week_option = inl refl
 same_setting staff_option staff_option = inl refl
 same_setting long_option long_option = inl refl
+same_setting log_option log_option = inl refl
+same_setting partition_option partition_option = inl refl
+same_setting of_option of_option = inl refl
+same_setting replicas_option replicas_option = inl refl
 same_setting _ _ = inr refl
 
 -- no option has the name of a value
@@ -238,6 +277,10 @@ no_place after_option fares_place = (refl, refl)
 no_place week_option fares_place = (refl, refl)
 no_place staff_option fares_place = (refl, refl)
 no_place long_option fares_place = (refl, refl)
+no_place log_option fares_place = (refl, refl)
+no_place partition_option fares_place = (refl, refl)
+no_place of_option fares_place = (refl, refl)
+no_place replicas_option fares_place = (refl, refl)
 no_place _ _ = (refl, refl)
 
 pub same_place : (p : Place) → bytes_eq (place_name p) (place_name p) ≡ true
@@ -246,6 +289,9 @@ same_place zone_place = refl
 same_place account_place = refl
 same_place day_place = refl
 same_place ledger_place = refl
+same_place action_place = refl
+same_place second_fares_place = refl
+same_place third_zone_place = refl
 
 -- ---- the options of a program
 
@@ -348,6 +394,10 @@ of_flag P sync early lint week long after_option flag = cc
 of_flag P sync early lint week long week_option flag = week
 of_flag P sync early lint week long staff_option flag = cc
 of_flag P sync early lint week long long_option flag = long
+of_flag P sync early lint week long log_option flag = cc
+of_flag P sync early lint week long partition_option flag = cc
+of_flag P sync early lint week long of_option flag = cc
+of_flag P sync early lint week long replicas_option flag = cc
 
 flag_reads : (k : Setting) → is_flag k ≡ true → accepts false (parser_for k) flag_value ≡ true
 flag_reads k flag = of_flag (λ j. accepts false (parser_for j) flag_value ≡ true) refl refl refl refl refl k flag
@@ -382,6 +432,10 @@ refuses_value after_option = refl
 refuses_value week_option = refl
 refuses_value staff_option = refl
 refuses_value long_option = refl
+refuses_value log_option = refl
+refuses_value partition_option = refl
+refuses_value of_option = refl
+refuses_value replicas_option = refl
 
 refuses_place : (p : Place) → is_refusal (refused_kind (place_parser p)) ≡ true
 refuses_place fares_place = refl
@@ -389,6 +443,9 @@ refuses_place zone_place = refl
 refuses_place account_place = refl
 refuses_place day_place = refl
 refuses_place ledger_place = refl
+refuses_place action_place = refl
+refuses_place second_fares_place = refl
+refuses_place third_zone_place = refl
 
 module _ (needed : Bool) (k : Setting) (rows : List Row) where
   pub use_taken : (vs : List Text) (word : Text) → Uses k vs word → found (name_of k) rows ≡ None → reader_of k word ≡ true → use_fault false (setting_rule needed k) vs rows ≡ []

@@ -7,7 +7,7 @@ use Rattle.clap.specs.Walk.{Text}
 use Rattle.pay_words.specs.Asked.{HaveNoHyphens}
 use Rattle.pay_words.specs.Options.{AreParts, Grammar, IsOption, MayStandApart, Part, Place, Said, ProgramWord, Setting, StandApart, all_of, all_said, flag_value, is_flag, name_of, next_alone, next_joined, next_part, next_value, one_more_plain, one_more_value, place_after, place_reader, placed, plain_words, program_word, reader_of, said, value_for, values_of, words_of_parts}
 use Rattle.pay_words.specs.Options.{port_option, lanes_option, shards_option, sessions_option, close_option, control_option, ahead_option, refused_option, greeting_option, journal_option, sync_option, ledger_option, early_option}
-use Rattle.pay_words.specs.Options.{lint_option, against_option, after_option, week_option, staff_option, long_option}
+use Rattle.pay_words.specs.Options.{lint_option, against_option, after_option, week_option, staff_option, long_option, log_option, partition_option, of_option, replicas_option}
 use Rattle.pay_words.specs.OneWord as words
 use Rattle.pay_words.specs.Options as say
 use Rattle.pay_words.proofs.OptionParts.{own_value, part_among, plain_append, values_append}
@@ -110,6 +110,10 @@ module _ (g : Grammar) where
   value_is_no_option week_option valued w fits may = cc
   value_is_no_option staff_option valued w fits may = no_option w may
   value_is_no_option long_option valued w fits may = cc
+  value_is_no_option log_option valued w fits may = no_option w may
+  value_is_no_option partition_option valued w fits may = number_is_no_option 0 15 w fits
+  value_is_no_option of_option valued w fits may = number_is_no_option 1 16 w fits
+  value_is_no_option replicas_option valued w fits may = number_is_no_option 1 5 w fits
 
   -- the words of an option
   alone_word : (k : Setting) → IsOption g k → program_word g (codes "--" ++ name_of k) ≡ say.setting k None
@@ -132,6 +136,10 @@ module _ (g : Grammar) where
   alone_word week_option named = rw named refl
   alone_word staff_option named = rw named refl
   alone_word long_option named = rw named refl
+  alone_word log_option named = rw named refl
+  alone_word partition_option named = rw named refl
+  alone_word of_option named = rw named refl
+  alone_word replicas_option named = rw named refl
 
   joined_word : (k : Setting) → IsOption g k → (v : Text) → program_word g (codes "--" ++ (name_of k ++ (codes "=" ++ v))) ≡ say.setting k (Some v)
   joined_word port_option named v = rw named refl
@@ -153,6 +161,10 @@ module _ (g : Grammar) where
   joined_word week_option named v = rw named refl
   joined_word staff_option named v = rw named refl
   joined_word long_option named v = rw named refl
+  joined_word log_option named v = rw named refl
+  joined_word partition_option named v = rw named refl
+  joined_word of_option named v = rw named refl
+  joined_word replicas_option named v = rw named refl
 
   -- ---- the words, part by part
 

@@ -1,16 +1,18 @@
 -- What the clauses of the result say, by what `clap` makes of the words.
-use Rattle.std.proofs.Common.{◌≡◌, ◌∙◌, ◌≤◌, ◌==◌, ◌&&◌, not, nat_le, eq-eqb, Bool, false, ℕ, codes, true, refl, sym, ap, subst, List, [], ◌∷◌, Option, Some, None, ◌⊎◌, inl, inr, true≢false, option_map, drop, Result, Ok, Err, IfOk, IfErr, MatchResult, slice_index, ◌≢◌}
+use Rattle.std.proofs.Common.{◌≡◌, ◌∙◌, ◌≤◌, ◌==◌, ◌&&◌, not, nat_le, ◌<◌, eq-eqb, Bool, false, ℕ, codes, true, refl, sym, ap, subst, List, [], ◌∷◌, Option, Some, None, ◌⊎◌, inl, inr, true≢false, option_map, drop, Result, Ok, Err, IfOk, IfErr, MatchResult, slice_index, ◌≢◌}
 use Rattle.clap.specs.Walk.{Row, Text}
 use Rattle.clap.specs.Simple.{subcommand_of}
 use Rattle.clap.specs.Kinds.{Kinds}
 use Rattle.clap.specs.Faults.{fault_of}
 use Rattle.clap.specs.declared.error.kind.ErrorKind.TheVariants.{DisplayHelp, DisplayVersion, InvalidSubcommand, OutOfMemory}
-use Rattle.pay_words.specs.Asked.{Asked, HaveNoHyphens, IsAnswer, IsJobOrMemory, allowed, asked, check_job, number_of, page_job, run, statement_job, check, statement, explain, page, replay, serve, audit, rebuild, words_ask, help_asked, help_named, version_asked, usage, IsFaultOf, job_asked, AreJobWords, IsJobInRange, without_dashes}
+use Rattle.pay_words.specs.Asked.{Asked, HaveNoHyphens, IsAnswer, IsJobOrMemory, allowed, asked, check_job, number_of, page_job, run, statement_job, check, statement, explain, page, replay, serve, audit, rebuild, follow, words_ask, help_asked, help_named, version_asked, usage, IsFaultOf, job_asked, AreJobWords, IsJobInRange, without_dashes}
 use Rattle.pay_words.specs.Options.{Part, StandApart, words_of_parts}
 use Rattle.pay_words.specs.Audit.{AreAuditParts, Audit}
 use Rattle.pay_words.specs.Check.{AreCheckParts, Check, CheckTexts, check_of_texts, has_after_day, has_against, may_check}
 use Rattle.pay_words.specs.Explain.{AreExplainParts, Explain, ExplainTexts, explain_of_texts}
+use Rattle.pay_words.specs.Follow.{AreFollowNumbers, AreFollowParts, Follow, FollowTexts, follow_of_texts, may_follow}
 use Rattle.pay_words.specs.Greeting.{is_greeting}
+use Rattle.pay_words.specs.Node.{node_port}
 use Rattle.pay_words.specs.Page.{ArePageParts, ArePorts, Page, PageTexts, may_show, page_of_texts}
 use Rattle.pay_words.specs.Run.{AreRunParts, Run, has_journal}
 use Rattle.pay_words.specs.Serve.{AreInRange, ArePartsOf, Serve, ServeTexts, is_whole, last_port, numbers_of}
@@ -25,7 +27,7 @@ use Rattle.clap.specs.declared.builder.value_parser.ValueParser.TheVariants as v
 use Rattle.clap.specs.ValueTests.{is_unsigned_in}
 use Rattle.clap.proofs.ValueTestLemmas.{accepts-Accepts}
 use Rattle.clap.specs.Walk.{one_of}
-use Rattle.std.proofs.lemmas.Bool.{leb-true, not-true}
+use Rattle.std.proofs.lemmas.Bool.{leb-true, ltb-true, not-true}
 use Rattle.clap.proofs.WalkLemmas.{both, first_value-rows, one_text-rows, raw_values-rows}
 use Rattle.std.specs.Prelude.{IfSome, IsOkAnd, ⊤, is_some}
 use Rattle.pay_day.specs.Words.{IsDay}
@@ -33,14 +35,15 @@ use Rattle.pay_dates.specs.Words.{day_of_text}
 use Rattle.pay_dates.specs.Laws.{AreServiceDays, BeginWithNoHyphen}
 use Rattle.pay_words.specs.OneWord.{is_account}
 use Rattle.pay_words.specs.declared.words.Job.{Job}
-use Rattle.pay_words.specs.declared.words.Job.TheVariants.{Run as RunJob, Check as CheckJob, Statement as StatementJob, Explain as ExplainJob, Page as PageJob, Replay, Serve as ServeJob, Stay as StayJob, Audit as AuditJob, Rebuild}
+use Rattle.pay_words.specs.declared.words.Job.TheVariants.{Run as RunJob, Check as CheckJob, Statement as StatementJob, Explain as ExplainJob, Page as PageJob, Replay, Serve as ServeJob, Stay as StayJob, Audit as AuditJob, Rebuild, Follow as FollowJob}
 use Rattle.pay_words.specs.declared.words.WordsFault.{WordsFault}
 use Rattle.pay_words.specs.declared.words.WordsFault.TheVariants.{Help, Version, Usage, Memory}
-use Rattle.pay_words.specs.CommandLine.{GivesAudit, GivesCheck, GivesExplain, GivesPage, GivesRebuild, GivesReplay, GivesRun, GivesServe, GivesStatement, HasAudit, HasCheckTexts, HasExplainTexts, HasFaresAndLedger, HasPageTexts, HasRun, HasServeTexts, HasStatementTexts, IsFaultOfKind, IsHelpOrMemory, IsVersionOrMemory, farebox_app, values_and_files}
+use Rattle.pay_words.specs.CommandLine.{GivesAudit, GivesCheck, GivesExplain, GivesFollow, GivesPage, GivesRebuild, GivesReplay, GivesRun, GivesServe, GivesStatement, HasAudit, HasCheckTexts, HasExplainTexts, HasFaresAndLedger, HasFollowTexts, HasPageTexts, HasRun, HasServeTexts, HasStatementTexts, IsFaultOfKind, IsHelpOrMemory, IsVersionOrMemory, farebox_app, values_and_files}
+use Rattle.pay_words.proofs.NodePorts.{port_text}
 use Rattle.pay_words.proofs.WordKinds.{Refuses, is_refusal}
 use Rattle.pay_words.proofs.WordsOfProgram.{Comes}
 use Rattle.pay_words.proofs.WordsAsked.{comes}
-use Rattle.pay_words.proofs.JobWords.{AreWordsOf, asks_audit, asks_check, asks_explain, asks_page, asks_rebuild, asks_replay, asks_run, asks_serve, asks_statement, in_order}
+use Rattle.pay_words.proofs.JobWords.{AreWordsOf, asks_audit, asks_check, asks_explain, asks_follow, asks_page, asks_rebuild, asks_replay, asks_run, asks_serve, asks_statement, in_order}
 
 -- ---- a parse that succeeds
 
@@ -55,6 +58,7 @@ Gives m (replay fares zone files) = GivesReplay m fares zone files
 Gives m (serve s) = GivesServe m s
 Gives m (audit a) = GivesAudit m a
 Gives m (rebuild fares ledger) = GivesRebuild m fares ledger
+Gives m (follow f) = GivesFollow m f
 Gives m _ = ⊥
 
 -- a parse that succeeds had the words of a job
@@ -71,6 +75,7 @@ matched ws m none has = go (words_ask ws) (comes ws)
     go (serve s) h = (h.1.0, h.1.1, (has refl).1 ∙ h.1.2, h.1.3, h.1.4, h.1.5)
     go (audit a) h = (h.1.0, (has refl).1 ∙ h.1.1, h.1.2)
     go (rebuild fares ledger) h = (h.1.0, (has refl).1 ∙ h.1.1, h.1.2)
+    go (follow f) h = (h.1.0, h.1.1, (has refl).1 ∙ h.1.2, h.1.3, h.1.4, h.1.5)
     go help_asked h =
         let both : [] ≡ DisplayHelp ∷ [] = sym none ∙ h in cc
     go help_named h =
@@ -131,6 +136,7 @@ refused_as ws k fault (inr among) is = go (words_ask ws) (comes ws)
     go (serve s) h = absurd (subst (IsAmong k) h.0 among)
     go (audit a) h = absurd (subst (IsAmong k) h.0 among)
     go (rebuild fares ledger) h = absurd (subst (IsAmong k) h.0 among)
+    go (follow f) h = absurd (subst (IsAmong k) h.0 among)
     go help_asked h = elim (subst (IsAmong k) h among) [
       | inl e ↦ called_help help_asked fault (inl refl) (subst (λ (y : ErrorKind). IsFaultOfKind y fault) e is)
       | inr bad ↦ absurd bad
@@ -284,6 +290,21 @@ rebuild_values m f fares ledger same gives =
       first_value-rows f (codes "LEDGER") ∙ (ap (first_of (codes "LEDGER")) rows_are ∙ gives.2.1),
     )
 
+-- the matches of `follow` have the words that it is given
+pub follow_texts : (m : ArgMatches) (f : Found) (x : Follow) → Some (rows_of f) ≡ option_map (λ p. p.1) (subcommand_rows_of m) → (gives : GivesFollow m x)
+    → HasFollowTexts f gives.0
+follow_texts m f x same gives =
+    let some : Some (rows_of f) ≡ Some gives.1 = same ∙ ap (option_map (λ p. p.1)) gives.2 in
+    let rows_are : rows_of f ≡ gives.1 = cc in
+    let h = gives.3 in (
+      first_value-rows f (codes "FARES") ∙ (ap (first_of (codes "FARES")) rows_are ∙ h.0),
+      first_value-rows f (codes "ZONE") ∙ (ap (first_of (codes "ZONE")) rows_are ∙ h.1),
+      first_value-rows f (codes "log") ∙ (ap (first_of (codes "log")) rows_are ∙ h.2),
+      one_text-rows f (codes "partition") ∙ (ap (one_of (codes "partition")) rows_are ∙ h.3),
+      one_text-rows f (codes "of") ∙ (ap (one_of (codes "of")) rows_are ∙ h.4),
+      first_value-rows f (codes "ledger") ∙ (ap (first_of (codes "ledger")) rows_are ∙ h.5),
+    )
+
 -- ---- the clauses
 
 -- the job that is asked for, `Usage` where none is, or memory was refused
@@ -313,6 +334,7 @@ pub record ReadsJobs (m : ArgMatches) (r : Result Job WordsFault) : Type 0 where
   pub of_serve : (s : Serve) → GivesServe m s → IsAnswer (allowed (serve s)) r
   pub of_audit : (a : Audit) → GivesAudit m a → IsOkAnd r (λ job. job_asked job ≡ audit a)
   pub of_rebuild : (fares ledger : Text) → GivesRebuild m fares ledger → IsOkAnd r (λ job. job_asked job ≡ rebuild fares ledger)
+  pub of_follow : (f : Follow) → GivesFollow m f → IsAnswer (allowed (follow f)) r
 
 pub job_read : (m : ArgMatches) (x : Asked) (r : Result Job WordsFault) → Gives m x → ReadsJobs m r → Answers (allowed x) r
 job_read m (run y) r h reads = answer_answers (allowed (run y)) r (reads.of_run y h)
@@ -324,6 +346,7 @@ job_read m (replay a b files) r h reads = memory_answers (replay a b files) r (r
 job_read m (serve s) r h reads = answer_answers (allowed (serve s)) r (reads.of_serve s h)
 job_read m (audit a) r h reads = job_answers (audit a) r (reads.of_audit a h)
 job_read m (rebuild fares ledger) r h reads = job_answers (rebuild fares ledger) r (reads.of_rebuild fares ledger h)
+job_read m (follow f) r h reads = answer_answers (allowed (follow f)) r (reads.of_follow f h)
 job_read m help_asked r h reads = absurd h
 job_read m help_named r h reads = absurd h
 job_read m version_asked r h reads = absurd h
@@ -340,6 +363,7 @@ job_words_are ws (ServeJob w) e = subst (λ (x : Asked). AreWordsOf x (drop 1 ws
 job_words_are ws (StayJob w) e = subst (λ (x : Asked). AreWordsOf x (drop 1 ws)) e (in_order ws)
 job_words_are ws (AuditJob w) e = subst (λ (x : Asked). AreWordsOf x (drop 1 ws)) e (in_order ws)
 job_words_are ws (Rebuild w) e = subst (λ (x : Asked). AreWordsOf x (drop 1 ws)) e (in_order ws)
+job_words_are ws (FollowJob w) e = subst (λ (x : Asked). AreWordsOf x (drop 1 ws)) e (in_order ws)
 
 -- a job is asked for
 abbrev IsTask : Asked → Type 0
@@ -357,7 +381,8 @@ by_memory x y Usage e task (inl h) = absurd (subst IsTask (sym e ∙ h) task)
 by_memory x y Usage e task (inr h) = absurd (subst IsTask (sym e ∙ h) task)
 by_memory x y Memory e task h = refl
 
--- what is asked for has its journal, its day, its other fare file, its clerks, or what its form of a service needs
+-- what is asked for has its journal, its day, its other fare file, its clerks, its partition, or what its form of a
+-- service needs
 abbrev IsAllowed : Asked → Type 0
 IsAllowed (run r) = has_journal r ≡ true
 IsAllowed (check c) = may_check c ≡ true
@@ -365,6 +390,7 @@ IsAllowed (statement s) = may_state s ≡ true
 IsAllowed (explain e) = is_some e.day ≡ true
 IsAllowed (page p) = may_show p ≡ true
 IsAllowed (serve s) = is_whole s ≡ true
+IsAllowed (follow f) = may_follow f ≡ true
 IsAllowed _ = ⊤
 
 asked_is_allowed : (x : Asked) → IsAllowed (allowed x)
@@ -398,6 +424,11 @@ asked_is_allowed (page p) = go (may_show p) refl
     go : (t : Bool) → may_show p ≡ t → IsAllowed (allowed (page p))
     go true is = rw is is
     go false is = rw is tt
+asked_is_allowed (follow f) = go (may_follow f) refl
+  where
+    go : (t : Bool) → may_follow f ≡ t → IsAllowed (allowed (follow f))
+    go true is = rw is is
+    go false is = rw is tt
 asked_is_allowed (replay a b files) = tt
 asked_is_allowed (audit a) = tt
 asked_is_allowed (rebuild fares ledger) = tt
@@ -410,6 +441,12 @@ number_in_range : (least most : ℕ) (word : Text) (n : ℕ) → is_unsigned_in 
 number_in_range least most word n fits is =
     let within = accepts-Accepts false (vp.Unsigned least most) word fits in
     (subst (λ (k : ℕ). least ≤ k) is within.2, subst (λ (k : ℕ). k ≤ most) is within.3)
+
+-- the port of a node is in its range
+node_in_range : (url : Text) (port : ℕ) → node_port url ≡ Some port → (1 ≤ port) × (port ≤ 65_535)
+node_in_range url port is =
+    let from = port_text url port is in
+    number_in_range 1 65_535 from.0 port from.1 from.2
 
 -- and where there may be none
 given_in_range : (least most : ℕ) (word : Option Text) (n : Option ℕ) → IfSome word (λ w. is_unsigned_in least most w ≡ true) → option_map number_of word ≡ n
@@ -495,6 +532,12 @@ job_in_range service ws (StayJob w) e =
     (port.0, control.0, room.0, lanes.0, room.1, shards.0, shards.1, at_most 0 86_400 w.ahead ahead, greets (λ s. s.now) w.greeting stays.1)
 job_in_range service ws (AuditJob w) e = tt
 job_in_range service ws (Rebuild w) e = tt
+job_in_range service ws (FollowJob w) e =
+    let made = job_words_are ws (FollowJob w) e in
+    let port = node_in_range made.0.log w.port (ap (λ (f : Follow). f.port) made.5) in
+    let of = number_in_range 1 16 made.0.of w.of made.4.1 (ap (λ (f : Follow). f.of) made.5) in
+    let within : w.partition < w.of = ltb-true w.partition w.of (subst IsAllowed e (asked_is_allowed (words_ask ws))) in
+    (port.0, port.1, within, of.1)
 
 pub result_in_range : AreServiceDays → (r : Result Job WordsFault) (ws : List Text) → IfOk r (λ job. asked ws ≡ job_asked job) → IfOk r IsJobInRange
 result_in_range service (Ok job) ws h = job_in_range service ws job h
@@ -555,3 +598,7 @@ module _ (r : Result Job WordsFault) (ws : List Text) (ok : IfOk r (λ job. aske
   pub result_rebuild : (name fares ledger : Text) → ws ≡ name ∷ codes "rebuild" ∷ fares ∷ ledger ∷ []
       → slice_index fares 0 ≢ 45 → slice_index ledger 0 ≢ 45 → IsJobOrMemory (rebuild fares ledger) r
   result_rebuild name fares ledger is f l = job_or_memory r ws (rebuild fares ledger) ok err (asks_rebuild ws name fares ledger is f l) tt
+
+  pub result_follow : (name : Text) (t : FollowTexts) (parts : List Part) → ws ≡ name ∷ codes "follow" ∷ words_of_parts parts → AreFollowParts t parts → StandApart parts
+      → slice_index t.fares 0 ≢ 45 → slice_index t.zone 0 ≢ 45 → AreFollowNumbers t → may_follow (follow_of_texts t) ≡ true → IsJobOrMemory (follow (follow_of_texts t)) r
+  result_follow name t parts is are may f z fits follows = job_or_memory r ws (follow (follow_of_texts t)) ok err (asks_follow ws name t parts is are may f z fits follows) tt

@@ -1,5 +1,5 @@
 -- What the words of the process ask for.
-use Rattle.std.specs.Prelude.{◌≡◌, ◌≢◌, ◌≤◌, ℕ, List, [], ◌∷◌, ◌++◌, codes, option_map, refl, Result, MatchResult, IsOkAnd}
+use Rattle.std.specs.Prelude.{◌≡◌, ◌≢◌, ◌≤◌, ◌<◌, ℕ, List, [], ◌∷◌, ◌++◌, codes, option_map, refl, Result, MatchResult, IsOkAnd}
 use Rattle.std.specs.Prelude.{◌⊎◌, ⊤, true, false, Some, None, IfSome, is_some, if◌then◌else◌}
 use Rattle.std.specs.Str.{bytes_eq, chars}
 use Rattle.std.specs.String.{string_bytes}
@@ -8,7 +8,7 @@ use Rattle.pay_dates.specs.Reading.{day_on_literals}
 use Rattle.pay_dates.specs.Words.{day_of_text}
 use Rattle.pay_day.specs.Words.{IsDay}
 use Rattle.pay_words.specs.declared.words.Job.{Job}
-use Rattle.pay_words.specs.declared.words.Job.TheVariants.{Run as RunJob, Check as CheckJob, Statement as StatementJob, Explain as ExplainJob, Page as PageJob, Replay, Serve as ServeJob, Stay as StayJob, Audit as AuditJob, Rebuild}
+use Rattle.pay_words.specs.declared.words.Job.TheVariants.{Run as RunJob, Check as CheckJob, Statement as StatementJob, Explain as ExplainJob, Page as PageJob, Replay, Serve as ServeJob, Stay as StayJob, Audit as AuditJob, Rebuild, Follow as FollowJob}
 use Rattle.pay_words.specs.declared.words.RunWords.{RunWords}
 use Rattle.pay_words.specs.declared.words.CheckWords.{CheckWords}
 use Rattle.pay_words.specs.declared.words.StatementWords.{StatementWords}
@@ -18,19 +18,22 @@ use Rattle.pay_words.specs.declared.words.ServeWords.{ServeWords}
 use Rattle.pay_words.specs.declared.words.StayWords.{StayWords}
 use Rattle.pay_words.specs.declared.words.Service.{Service}
 use Rattle.pay_words.specs.declared.words.AuditWords.{AuditWords}
+use Rattle.pay_words.specs.declared.words.FollowWords.{FollowWords}
 use Rattle.pay_words.specs.declared.words.WordsFault.{WordsFault}
 use Rattle.pay_words.specs.declared.words.WordsFault.TheVariants.{Help, Version, Usage, Memory}
-use Rattle.pay_words.specs.declared.limits.TheConstants.{MOST_ACCOUNT, MOST_PORT, MOST_SERVED_LANES, MOST_STAYING_LANES, MOST_SHARDS, MOST_SESSIONS, MOST_AHEAD}
+use Rattle.pay_words.specs.declared.limits.TheConstants.{MOST_ACCOUNT, MOST_PORT, MOST_SERVED_LANES, MOST_STAYING_LANES, MOST_SHARDS, MOST_SESSIONS, MOST_AHEAD, MOST_PARTITIONS}
 pub use Rattle.pay_words.specs.OneWord.{Text, Word, value, dashes, call_for_help, call_for_version, option, word_kind}
 pub use Rattle.pay_words.specs.OneWord.{Reader, any_text, is_account, is_port, number_of}
 pub use Rattle.pay_words.specs.Options.{HasNoHyphen}
 use Rattle.pay_words.specs.Options.{Part, Said, StandApart, all_of, all_said, help_wanted, not_taken, plain, apart, joined, plain_words, values_of, words_of_parts}
 use Rattle.pay_words.specs.Options.{port_option, lanes_option, shards_option, sessions_option, close_option, control_option, ahead_option, refused_option, greeting_option, journal_option, sync_option, ledger_option, early_option}
-use Rattle.pay_words.specs.Options.{lint_option, against_option, after_option, week_option, staff_option, long_option}
+use Rattle.pay_words.specs.Options.{lint_option, against_option, after_option, week_option, staff_option, long_option, log_option, partition_option, of_option}
 use Rattle.pay_words.specs.Audit.{AreAuditParts, Audit, audit_grammar}
 use Rattle.pay_words.specs.Check.{AreCheckParts, Check, CheckTexts, check_grammar, check_of_texts, has_against, may_check}
 use Rattle.pay_words.specs.Explain.{AreExplainParts, Explain, ExplainTexts, explain_grammar, explain_of_texts}
+use Rattle.pay_words.specs.Follow.{AreFollowNumbers, AreFollowParts, Follow, FollowTexts, follow_grammar, follow_of_texts, may_follow}
 use Rattle.pay_words.specs.Greeting.{is_greeting}
+use Rattle.pay_words.specs.Node.{node_port}
 use Rattle.pay_words.specs.Page.{ArePageParts, ArePorts, Page, PageTexts, has_control, may_show, page_grammar, page_of_texts}
 use Rattle.pay_words.specs.Rebuild.{rebuild_grammar}
 use Rattle.pay_words.specs.Run.{AreRunParts, Run, first_given, has_journal, is_given, run_grammar}
@@ -85,6 +88,8 @@ pub data Asked : Type 0 where
   audit : Audit → Asked
   -- `rebuild` with its fare file and ledger
   rebuild : Text → Text → Asked
+  -- `follow` with its fare file and zone, and the values of its options
+  follow : Follow → Asked
   -- help, by `-h` or `--help`
   help_asked : Asked
   -- the word `help`: help, or usage where a word after it names no program
@@ -252,6 +257,25 @@ rebuild_asked (all_of parts) = rebuild_of (plain_words parts)
 rebuild_asked help_wanted = help_asked
 rebuild_asked not_taken = usage
 
+-- two values, and one value for each option
+abbrev pub follow_of : List Text → List Text → List Text → List Text → List Text → Asked
+follow_of (fares ∷ zone ∷ []) (u ∷ []) (p ∷ []) (n ∷ []) (l ∷ []) = follow (follow_of_texts (record {
+  fares = fares;
+  zone = zone;
+  log = u;
+  partition = p;
+  of = n;
+  ledger = l;
+}))
+follow_of _ _ _ _ _ = usage
+
+-- `follow FARES ZONE` and its options
+abbrev pub follow_asked : Said → Asked
+follow_asked (all_of parts) = follow_of (plain_words parts) (values_of log_option parts) (values_of partition_option parts)
+    (values_of of_option parts) (values_of ledger_option parts)
+follow_asked help_wanted = help_asked
+follow_asked not_taken = usage
+
 abbrev pub option_asked : Word → Asked
 option_asked call_for_help = help_asked
 option_asked call_for_version = version_asked
@@ -267,8 +291,9 @@ program_asked program rest = if bytes_eq (codes "run") program then run_asked (a
     else (if bytes_eq (codes "serve") program then serve_asked (all_said serve_grammar rest)
     else (if bytes_eq (codes "audit") program then audit_asked (all_said audit_grammar rest)
     else (if bytes_eq (codes "rebuild") program then rebuild_asked (all_said rebuild_grammar rest)
+    else (if bytes_eq (codes "follow") program then follow_asked (all_said follow_grammar rest)
     else (if bytes_eq (codes "help") program then help_named
-    else option_asked (word_kind program))))))))))
+    else option_asked (word_kind program)))))))))))
 
 -- the first word is the program's own name, and the second names what it is to do
 abbrev pub words_ask : List Text → Asked
@@ -276,7 +301,9 @@ words_ask (name ∷ program ∷ rest) = program_asked program rest
 words_ask _ = usage
 
 -- a service ends or stays, a run without a journal brings no lines to the disk, a day is one, days up to one are
--- compared with another fare file alone, a long statement has a journal, by which alone it has a ledger, and pages ask a service at a port of their own, without which they have no clerks
+-- compared with another fare file alone, a long statement has a journal, by which alone it has a ledger, pages ask a
+-- service at a port of their own, without which they have no clerks, and what follows a log has a node and one of its
+-- partitions
 abbrev pub allowed : Asked → Asked
 allowed (run r) = if has_journal r then run r else usage
 allowed (check c) = if may_check c then check c else usage
@@ -284,6 +311,7 @@ allowed (statement s) = if may_state s then statement s else usage
 allowed (explain e) = if is_some e.day then explain e else usage
 allowed (page p) = if may_show p then page p else usage
 allowed (serve s) = if is_whole s then serve s else usage
+allowed (follow f) = if may_follow f then follow f else usage
 allowed what = what
 
 abbrev pub asked : List Text → Asked
@@ -410,6 +438,16 @@ audit_job w = record {
   ledger = option_map (λ s. s.now) w.ledger;
 }
 
+abbrev pub follow_job : FollowWords → Follow
+follow_job w = record {
+  fares = w.fares.now;
+  zone = w.zone.now;
+  port = Some w.port;
+  partition = w.partition;
+  of = w.of;
+  ledger = w.ledger.now;
+}
+
 abbrev pub job_asked : Job → Asked
 job_asked (RunJob w) = run (run_job w)
 job_asked (CheckJob w) = check (check_job w)
@@ -421,6 +459,7 @@ job_asked (ServeJob w) = serve (served_job w)
 job_asked (StayJob w) = serve (staying_job w)
 job_asked (AuditJob w) = audit (audit_job w)
 job_asked (Rebuild w) = rebuild w.fares.now w.ledger.now
+job_asked (FollowJob w) = follow (follow_job w)
 
 -- the words of `run` say what it is asked for, in some order
 abbrev pub AreRunWords : Run → List Text → Type 0
@@ -455,6 +494,11 @@ AreServeWords s words = (t : ServeTexts) × (parts : List Part) × (words ≡ co
 abbrev pub AreAuditWords : Audit → List Text → Type 0
 AreAuditWords a words = (parts : List Part) × (words ≡ codes "audit" ∷ words_of_parts parts) × AreAuditParts a parts
 
+-- the words of `follow` do
+abbrev pub AreFollowWords : Follow → List Text → Type 0
+AreFollowWords f words = (t : FollowTexts) × (parts : List Part) × (words ≡ codes "follow" ∷ words_of_parts parts)
+    × AreFollowParts t parts × AreFollowNumbers t × (follow_of_texts t ≡ f)
+
 -- the words that the job was made of
 abbrev pub AreJobWords : Job → List Text → Type 0
 AreJobWords (RunJob w) words = AreRunWords (run_job w) words
@@ -467,10 +511,12 @@ AreJobWords (ServeJob w) words = AreServeWords (served_job w) words
 AreJobWords (StayJob w) words = AreServeWords (staying_job w) words
 AreJobWords (AuditJob w) words = AreAuditWords (audit_job w) words
 AreJobWords (Rebuild w) words = words ≡ codes "rebuild" ∷ w.fares.now ∷ w.ledger.now ∷ []
+AreJobWords (FollowJob w) words = AreFollowWords (follow_job w) words
 
 -- the numbers of a job are in their ranges, what is synced is a journal, days up to one are compared with another
 -- fare file, a long statement has a journal and a short one no ledger, there is a journal to be replayed, the staff of a service that stays have a port of their own, also where
--- pages ask something of them, without which pages have no clerks, and a greeting is one, where there is any
+-- pages ask something of them, without which pages have no clerks, a greeting is one, where there is any, and what
+-- follows a log has a port of a node and one of its partitions
 abbrev pub IsJobInRange : Job → Type 0
 IsJobInRange (RunJob w) = has_journal (run_job w) ≡ true
 IsJobInRange (CheckJob w) = (has_against (check_job w) ≡ true) × IfSome w.after IsDay
@@ -488,6 +534,7 @@ IsJobInRange (StayJob w) = (1 ≤ w.port) × (1 ≤ w.control) × (w.control ≢
     × IfSome w.greeting (λ text. is_greeting text.now ≡ true)
 IsJobInRange (AuditJob w) = ⊤
 IsJobInRange (Rebuild w) = ⊤
+IsJobInRange (FollowJob w) = (1 ≤ w.port) × (w.port ≤ MOST_PORT) × (w.partition < w.of) × (w.of ≤ MOST_PARTITIONS)
 
 -- what the fault says of the words; memory may be refused at any words
 abbrev pub IsFaultOf : Asked → WordsFault → Type 0
@@ -582,6 +629,14 @@ AuditIsTaken words result = (name : Text) (a : Audit) (parts : List Part) → wo
 abbrev pub RebuildIsTaken : List Text → Result Job WordsFault → Type 0
 RebuildIsTaken words result = (name fares ledger : Text) → words ≡ name ∷ codes "rebuild" ∷ fares ∷ ledger ∷ []
     → HasNoHyphen fares → HasNoHyphen ledger → IsJobOrMemory (rebuild fares ledger) result
+
+-- two words with no hyphen before them and each option once, in whatever order, are those of `follow`, where the URL
+-- has a port, and there is such a partition
+abbrev pub FollowIsTaken : List Text → Result Job WordsFault → Type 0
+FollowIsTaken words result = (name : Text) (t : FollowTexts) (parts : List Part) → words ≡ name ∷ codes "follow" ∷ words_of_parts parts
+    → AreFollowParts t parts → StandApart parts → HasNoHyphen t.fares → HasNoHyphen t.zone → AreFollowNumbers t
+    → may_follow (follow_of_texts t) ≡ true
+    → IsJobOrMemory (follow (follow_of_texts t)) result
 
 -- ---- worked rows
 
@@ -1486,6 +1541,122 @@ rebuild_option_row = refl
 rebuild_help_row : row (codes "rebuild" ∷ codes "a" ∷ codes "l" ∷ codes "--help" ∷ []) ≡ help_asked
 unfolding chars
 rebuild_help_row = refl
+
+abbrev follow_words : List Text → List Text
+follow_words options = codes "follow" ∷ codes "a" ∷ codes "b" ∷ options
+
+-- the options but for those of the partition
+abbrev node_words : List Text → List Text
+node_words options = follow_words (codes "--log=nats://127.0.0.1:4222" ∷ codes "--ledger=l" ∷ options)
+
+-- and but for the URL
+abbrev partition_words : List Text → List Text
+partition_words options = follow_words (codes "--partition=2" ∷ codes "--of=4" ∷ codes "--ledger=l" ∷ options)
+
+abbrev plain_follow : Follow
+plain_follow = record { fares = codes "a"; zone = codes "b"; port = Some 4_222; partition = 2; of = 4; ledger = codes "l" }
+
+follow_row : row (follow_words (codes "--log" ∷ codes "nats://127.0.0.1:4222" ∷ codes "--partition" ∷ codes "2" ∷ codes "--of" ∷ codes "4" ∷ codes "--ledger" ∷ codes "l" ∷ []))
+    ≡ follow plain_follow
+unfolding chars node_port
+follow_row = refl
+
+-- options before, between and after the values
+all_follow_row : row (codes "follow" ∷ codes "--of=+04" ∷ codes "a" ∷ codes "--ledger=-l" ∷ codes "--partition=02" ∷ codes "--log=nats://127.0.0.1:04222" ∷ codes "--" ∷ codes "-b" ∷ [])
+    ≡ follow (record plain_follow { zone = codes "-b"; ledger = codes "-l" })
+unfolding chars node_port
+all_follow_row = refl
+
+-- each option is needed
+follow_no_log_row : row (partition_words []) ≡ usage
+unfolding chars
+follow_no_log_row = refl
+
+follow_no_partition_row : row (node_words (codes "--of=4" ∷ [])) ≡ usage
+unfolding chars
+follow_no_partition_row = refl
+
+follow_no_of_row : row (node_words (codes "--partition=2" ∷ [])) ≡ usage
+unfolding chars
+follow_no_of_row = refl
+
+follow_no_ledger_row : row (follow_words (codes "--log=nats://127.0.0.1:4222" ∷ codes "--partition=2" ∷ codes "--of=4" ∷ [])) ≡ usage
+unfolding chars
+follow_no_ledger_row = refl
+
+-- and given once
+follow_log_twice_row : row (partition_words (codes "--log=nats://127.0.0.1:4222" ∷ codes "--log=nats://127.0.0.1:4222" ∷ [])) ≡ usage
+unfolding chars
+follow_log_twice_row = refl
+
+follow_partition_twice_row : row (node_words (codes "--partition=2" ∷ codes "--of=4" ∷ codes "--partition=2" ∷ [])) ≡ usage
+unfolding chars
+follow_partition_twice_row = refl
+
+-- the URL names a port of 127.0.0.1, and nothing else
+follow_host_row : row (partition_words (codes "--log=nats://localhost:4222" ∷ [])) ≡ usage
+unfolding chars node_port
+follow_host_row = refl
+
+follow_port_0_row : row (partition_words (codes "--log=nats://127.0.0.1:0" ∷ [])) ≡ usage
+unfolding chars node_port
+follow_port_0_row = refl
+
+follow_last_port_row : row (partition_words (codes "--log=nats://127.0.0.1:65535" ∷ [])) ≡ follow (record plain_follow { port = Some 65_535 })
+unfolding chars node_port
+follow_last_port_row = refl
+
+follow_beyond_ports_row : row (partition_words (codes "--log=nats://127.0.0.1:65536" ∷ [])) ≡ usage
+unfolding chars node_port
+follow_beyond_ports_row = refl
+
+-- 1 to 16 partitions, of which the first is 0
+follow_one_row : row (node_words (codes "--partition=0" ∷ codes "--of=1" ∷ [])) ≡ follow (record plain_follow { partition = 0; of = 1 })
+unfolding chars node_port
+follow_one_row = refl
+
+follow_last_partition_row : row (node_words (codes "--partition=15" ∷ codes "--of=16" ∷ [])) ≡ follow (record plain_follow { partition = 15; of = 16 })
+unfolding chars node_port
+follow_last_partition_row = refl
+
+follow_partition_of_as_many_row : row (node_words (codes "--partition=4" ∷ codes "--of=4" ∷ [])) ≡ usage
+unfolding chars node_port
+follow_partition_of_as_many_row = refl
+
+follow_of_0_row : row (node_words (codes "--partition=0" ∷ codes "--of=0" ∷ [])) ≡ usage
+unfolding chars
+follow_of_0_row = refl
+
+follow_of_17_row : row (node_words (codes "--partition=0" ∷ codes "--of=17" ∷ [])) ≡ usage
+unfolding chars
+follow_of_17_row = refl
+
+follow_partition_16_row : row (node_words (codes "--partition=16" ∷ codes "--of=16" ∷ [])) ≡ usage
+unfolding chars
+follow_partition_16_row = refl
+
+-- it reads no journal, and closes no day early
+follow_journal_row : row (partition_words (codes "--log=nats://127.0.0.1:4222" ∷ codes "--journal=j" ∷ [])) ≡ usage
+unfolding chars
+follow_journal_row = refl
+
+follow_early_row : row (partition_words (codes "--log=nats://127.0.0.1:4222" ∷ codes "--early" ∷ [])) ≡ usage
+unfolding chars
+follow_early_row = refl
+
+follow_zone_row : row (codes "follow" ∷ codes "a" ∷ codes "--log=nats://127.0.0.1:4222" ∷ codes "--partition=2" ∷ codes "--of=4" ∷ codes "--ledger=l" ∷ []) ≡ usage
+unfolding chars
+follow_zone_row = refl
+
+-- help may be called for after a URL that is none
+follow_help_row : row (codes "follow" ∷ codes "--log=x" ∷ codes "-h" ∷ []) ≡ help_asked
+unfolding chars
+follow_help_row = refl
+
+-- no other program has the partition
+partition_of_run_row : row (codes "run" ∷ codes "a" ∷ codes "b" ∷ codes "--partition=2" ∷ []) ≡ usage
+unfolding chars
+partition_of_run_row = refl
 
 check_help_row : row (codes "check" ∷ codes "-h" ∷ []) ≡ help_asked
 unfolding chars

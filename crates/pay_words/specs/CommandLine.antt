@@ -14,11 +14,12 @@ use Rattle.clap.specs.declared.parser.matches.ArgMatches.{ArgMatches}
 use Rattle.clap.specs.declared.parser.matches.Found.{Found}
 use Rattle.pay_words.specs.declared.words.WordsFault.{WordsFault}
 use Rattle.pay_words.specs.declared.words.WordsFault.TheVariants.{Help, Version, Usage, Memory}
-use Rattle.pay_words.specs.declared.limits.TheConstants.{MOST_ACCOUNT, MOST_PORT, MOST_SERVED_LANES, MOST_SHARDS, MOST_SESSIONS, MOST_AHEAD}
+use Rattle.pay_words.specs.declared.limits.TheConstants.{MOST_ACCOUNT, MOST_PORT, MOST_SERVED_LANES, MOST_SHARDS, MOST_SESSIONS, MOST_AHEAD, LAST_PARTITION, MOST_PARTITIONS}
 use Rattle.pay_words.specs.Asked.{version_line}
 use Rattle.pay_words.specs.Audit.{Audit}
 use Rattle.pay_words.specs.Check.{Check, CheckTexts, check_of_texts}
 use Rattle.pay_words.specs.Explain.{Explain, ExplainTexts, explain_of_texts}
+use Rattle.pay_words.specs.Follow.{AreFollowNumbers, Follow, FollowTexts, follow_of_texts}
 use Rattle.pay_words.specs.OneWord.{is_account}
 use Rattle.pay_words.specs.Page.{ArePorts, Page, PageTexts, page_of_texts}
 use Rattle.pay_words.specs.Run.{Run}
@@ -133,12 +134,17 @@ audit_app = with_rule (with_rule (with_fares_and_zone (new_app (codes "audit")))
 abbrev pub rebuild_app : App
 rebuild_app = with_rule (with_rule (new_app (codes "rebuild")) (required_word (codes "FARES"))) (required_word (codes "LEDGER"))
 
+-- `follow FARES ZONE --log URL --partition P --of N --ledger FILE`
+abbrev pub follow_app : App
+follow_app = with_rule (with_rule (with_rule (with_rule (with_fares_and_zone (new_app (codes "follow"))) (required_text (codes "log")))
+    (required_option (codes "partition") 0 LAST_PARTITION)) (required_option (codes "of") 1 MOST_PARTITIONS)) (required_text (codes "ledger"))
+
 -- the program, which has a version, and wants one of its programs named
 abbrev pub farebox_app : App
-farebox_app = with_subcommand (with_subcommand (with_subcommand (with_subcommand (with_subcommand (with_subcommand (with_subcommand (with_subcommand (with_subcommand
+farebox_app = with_subcommand (with_subcommand (with_subcommand (with_subcommand (with_subcommand (with_subcommand (with_subcommand (with_subcommand (with_subcommand (with_subcommand
     (on_top (λ top. record top { has_version = true; subcommand_required = true })
     (new_app (codes "farebox")))
-    run_app.top) check_app.top) statement_app.top) explain_app.top) page_app.top) replay_app.top) serve_app.top) audit_app.top) rebuild_app.top
+    run_app.top) check_app.top) statement_app.top) explain_app.top) page_app.top) replay_app.top) serve_app.top) audit_app.top) rebuild_app.top) follow_app.top
 
 -- ---- the matches
 
@@ -301,6 +307,23 @@ GivesRebuild m fares ledger = (rows : List Row) × (subcommand_rows_of m ≡ Som
 -- the matches have these values of FARES and LEDGER
 abbrev pub HasFaresAndLedger : Found → Text → Text → Type 0
 HasFaresAndLedger f fares ledger = (first_value f (codes "FARES") ≡ Some fares) × (first_value f (codes "LEDGER") ≡ Some ledger)
+
+-- these rows have the words that `follow` is given
+abbrev pub HaveFollowTexts : List Row → FollowTexts → Type 0
+HaveFollowTexts rows t = (first_of (codes "FARES") rows ≡ Some t.fares) × (first_of (codes "ZONE") rows ≡ Some t.zone)
+    × (first_of (codes "log") rows ≡ Some t.log) × (one_of (codes "partition") rows ≡ Some t.partition)
+    × (one_of (codes "of") rows ≡ Some t.of) × (first_of (codes "ledger") rows ≡ Some t.ledger)
+
+-- the matches are those of `follow` with these values, and numbers in their ranges
+abbrev pub GivesFollow : ArgMatches → Follow → Type 0
+GivesFollow m f = (t : FollowTexts) × (rows : List Row) × (subcommand_rows_of m ≡ Some (codes "follow", rows))
+    × HaveFollowTexts rows t × AreFollowNumbers t × (follow_of_texts t ≡ f)
+
+-- the matches have the words that `follow` is given
+abbrev pub HasFollowTexts : Found → FollowTexts → Type 0
+HasFollowTexts f t = (first_value f (codes "FARES") ≡ Some t.fares) × (first_value f (codes "ZONE") ≡ Some t.zone)
+    × (first_value f (codes "log") ≡ Some t.log) × (one_text f (codes "partition") ≡ Some t.partition)
+    × (one_text f (codes "of") ≡ Some t.of) × (first_value f (codes "ledger") ≡ Some t.ledger)
 
 -- help was asked for, or memory was refused
 abbrev pub IsHelpOrMemory : WordsFault → Type 0

@@ -3,7 +3,9 @@ pub mod Asked
 pub mod Audit
 pub mod Check
 pub mod Explain
+pub mod Follow
 pub mod Greeting
+pub mod Node
 pub mod OneWord
 pub mod Options
 pub mod Page

@@ -2,7 +2,7 @@
 use Rattle.std.specs.Prelude.{◌==◌, ℕ, List, [], ◌∷◌, codes, Bool, true, Option, Some, None, slice_get, if◌then◌else◌}
 use Rattle.std.specs.Str.{bytes_eq, chars}
 use Rattle.std.specs.Str.Parse.{digits_value, without_leading_plus}
-use Rattle.pay_words.specs.declared.limits.TheConstants.{MOST_ACCOUNT, MOST_PORT, MOST_SERVED_LANES, MOST_SHARDS, MOST_SESSIONS, MOST_AHEAD}
+use Rattle.pay_words.specs.declared.limits.TheConstants.{MOST_ACCOUNT, MOST_PORT, MOST_SERVED_LANES, MOST_SHARDS, MOST_SESSIONS, MOST_AHEAD, LAST_PARTITION, MOST_PARTITIONS, MOST_REPLICAS}
 use Rattle.clap.specs.ValueTests.{is_unsigned_in}
 
 abbrev pub Text : Type 0
@@ -68,6 +68,15 @@ is_sessions word = is_unsigned_in 1 MOST_SESSIONS word
 
 abbrev pub is_ahead : Reader
 is_ahead word = is_unsigned_in 0 MOST_AHEAD word
+
+abbrev pub is_partition : Reader
+is_partition word = is_unsigned_in 0 LAST_PARTITION word
+
+abbrev pub is_partitions : Reader
+is_partitions word = is_unsigned_in 1 MOST_PARTITIONS word
+
+abbrev pub is_replicas : Reader
+is_replicas word = is_unsigned_in 1 MOST_REPLICAS word
 
 -- the number that such a word is
 abbrev pub number_of : Text → ℕ

@@ -3,7 +3,7 @@ use Rattle.std.specs.Prelude.{◌≡◌, List, [], ◌∷◌, ◌++◌, codes, B
 use Rattle.std.specs.Str.{bytes_eq}
 use Rattle.clap.specs.Lexer.{long_of}
 use Rattle.pay_words.specs.OneWord.{Reader, Text, Word, value, dashes, call_for_help, call_for_version, option, any_text, word_kind}
-use Rattle.pay_words.specs.OneWord.{is_account, is_ahead, is_lanes, is_port, is_sessions, is_shards}
+use Rattle.pay_words.specs.OneWord.{is_account, is_ahead, is_lanes, is_partition, is_partitions, is_port, is_replicas, is_sessions, is_shards}
 
 -- ---- values in their places, and options
 
@@ -14,6 +14,10 @@ pub data Place : Type 0 where
   account_place : Place
   day_place : Place
   ledger_place : Place
+  action_place : Place
+  -- FARES and ZONE after an action
+  second_fares_place : Place
+  third_zone_place : Place
 
 -- what it has to be
 abbrev pub place_reader : Place → Reader
@@ -22,6 +26,9 @@ place_reader zone_place = any_text
 place_reader account_place = is_account
 place_reader day_place = any_text
 place_reader ledger_place = any_text
+place_reader action_place = any_text
+place_reader second_fares_place = any_text
+place_reader third_zone_place = any_text
 
 -- an option, which has a value if it is no flag
 pub data Setting : Type 0 where
@@ -44,6 +51,10 @@ pub data Setting : Type 0 where
   week_option : Setting
   staff_option : Setting
   long_option : Setting
+  log_option : Setting
+  partition_option : Setting
+  of_option : Setting
+  replicas_option : Setting
 
 abbrev pub name_of : Setting → Text
 name_of port_option = codes "port"
@@ -65,6 +76,10 @@ name_of after_option = codes "after"
 name_of week_option = codes "week"
 name_of staff_option = codes "staff"
 name_of long_option = codes "long"
+name_of log_option = codes "log"
+name_of partition_option = codes "partition"
+name_of of_option = codes "of"
+name_of replicas_option = codes "replicas"
 
 abbrev pub is_flag : Setting → Bool
 is_flag port_option = false
@@ -86,6 +101,10 @@ is_flag after_option = false
 is_flag week_option = true
 is_flag staff_option = false
 is_flag long_option = true
+is_flag log_option = false
+is_flag partition_option = false
+is_flag of_option = false
+is_flag replicas_option = false
 
 -- the value that a flag is given with
 abbrev pub flag_value : Text
@@ -115,6 +134,10 @@ reader_of after_option = any_text
 reader_of week_option = is_flag_value
 reader_of staff_option = any_text
 reader_of long_option = is_flag_value
+reader_of log_option = any_text
+reader_of partition_option = is_partition
+reader_of of_option = is_partitions
+reader_of replicas_option = is_replicas
 
 -- what a program takes: values in these places, in order, and these options, in any
 pub record Grammar : Type 0 where
@@ -296,6 +319,7 @@ MayStandApart ledger_option word = HasNoHyphen word
 MayStandApart against_option word = HasNoHyphen word
 MayStandApart after_option word = HasNoHyphen word
 MayStandApart staff_option word = HasNoHyphen word
+MayStandApart log_option word = HasNoHyphen word
 MayStandApart _ word = ⊤
 
 -- each value that is the next word after its option may be

@@ -44,6 +44,11 @@ pub const REBUILD: &str = "\
 Print the lines of the taps and corrections that a ledger archives, as a journal
 has them";
 
+/// What `follow` does.
+pub const FOLLOW: &str = "\
+Answer the lines of a partition of a replicated log, and publish each reply under its
+place";
+
 /// What the word FARES is.
 pub const FARES: &str = "The fare file, a TOML document";
 
@@ -125,7 +130,7 @@ pub const SYNC: &str = "\
 Each line is on the disk before its reply. Without it, before a close is
 posted, and at the end";
 
-/// What the option `--ledger` of `run` and of `serve` is.
+/// What the option `--ledger` of `run`, of `serve` and of `follow` is.
 pub const LEDGER: &str = "\
 The SQLite file that days are closed into. It is made if it is missing";
 
@@ -211,26 +216,39 @@ For a service that stays: the line with which each connection has to
 begin. 1 to 128 printable ASCII characters, no space at either end; not
 STOP, STATS, BACKUP PATH or OPEN DAY";
 
+/// What the option `--log` is.
+pub const LOG_URL: &str = "\
+A node of the log: nats://127.0.0.1:PORT, whose port is from 1 to 65535";
+
+/// What the option `--partition` is.
+pub const PARTITION: &str = "The partition whose lines are answered, from 0 to N - 1";
+
+/// What the option `--of` is.
+pub const OF: &str = "How many partitions the log has, from 1 to 16";
+
 /// What stands below the program's own help.
 pub const BELOW_PROGRAM: &str = "\
 Words of run (FARES ZONE), of check (FARES), of statement (FARES ZONE ACCOUNT DAY), of explain
 (FARES ZONE ACCOUNT DAY --journal PATH), of page (FARES ZONE --journal PATH --port P), of replay
 (FARES ZONE FILE..), of serve (FARES ZONE --port P --lanes L --shards N --sessions K --close DAY, or
 FARES ZONE --port P --lanes L --shards N --control C --journal FOLDER --ledger FILE), of audit
-(FARES ZONE --journal PATH) and of rebuild (FARES LEDGER), with options in any order:
+(FARES ZONE --journal PATH), of rebuild (FARES LEDGER) and of follow (FARES ZONE --log URL
+--partition P --of N --ledger FILE), with options in any order:
   FARES    the fare file, a TOML document, which may hold editions, fares that hold from a day on
   ZONE     the time zone, a POSIX rule text (a name such as Europe/London is none)
   ACCOUNT  the account, a number from 1 to 4294967295
   DAY      a service day: its date, such as 2024-01-08, or its number, counted from 1970-01-01
   P        the port of the first lane, each further lane has the next port; with C, of all lanes;
-           of page, the port that answers browsers
+           of page, the port that answers browsers; of follow, a partition, from 0 to N - 1
   L        how many lanes there are, from 1 to 15; with C, from 1 to 14
-  N        how many shards the accounts are spread over, from 1 to 16
+  N        how many shards the accounts are spread over, from 1 to 16; of follow, how many
+           partitions the log has, from 1 to 16
   K        how many connections each lane serves, from 1 to 1000; then the service ends
   C        the port for staff, who close days and end the service; of page, the one that is asked
   FILE     a journal, which run or serve wrote
   PATH     a journal, or a folder of journals, which is only read
   LEDGER   the SQLite file that days were closed into
+  URL      a node of a replicated log, nats://127.0.0.1:PORT
 
 Further options: --journal FILE and --ledger FILE of run, and --sync with --journal; --lint and
 --against OLD of check, where OLD is another fare file, and --after DAY with --against; --journal
@@ -418,3 +436,16 @@ Statuses:
   2  the words were refused
 
 The lines, the journal, the ledger and the faults are described in docs/FORMATS.md.";
+
+/// What stands below the help of `follow`.
+pub const BELOW_FOLLOW: &str = "\
+A replicated log has N partitions, from 0 to N - 1. A replica answers the lines of one of them: of
+the partition P. URL is nats://127.0.0.1:PORT, the text of no other host. Standard input is not
+read.
+
+Statuses:
+  0  all right
+  1  a fault, which one line on standard error names
+  2  the words were refused
+
+The lines and replies, the fare file and the faults are described in docs/FORMATS.md.";

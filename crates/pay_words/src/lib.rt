@@ -3,9 +3,10 @@
 
 mod help;
 pub mod limits;
+mod node;
 mod words;
 
 pub use words::{
-    AuditWords, CheckWords, ExplainWords, Job, PageWords, RebuildWords, ReplayWords, RunWords,
-    ServeWords, StatementWords, StayWords, WordsFault, read_words,
+    AuditWords, CheckWords, ExplainWords, FollowWords, Job, PageWords, RebuildWords, ReplayWords,
+    RunWords, ServeWords, StatementWords, StayWords, WordsFault, read_words,
 };

@@ -25,3 +25,12 @@ pub const MOST_GREETING_BYTES: usize = 128;
 /// The greatest number of seconds that a tap may be ahead of this machine's clock, where there is such a limit. The
 /// least is 0.
 pub const MOST_AHEAD: u64 = 86_400;
+
+/// The greatest number of partitions of a replicated log. The least is 1.
+pub const MOST_PARTITIONS: u64 = 16;
+
+/// The greatest partition, where there are as many as there can be. The least is 0.
+pub const LAST_PARTITION: u64 = 15;
+
+/// The greatest number of nodes that have a copy of a replicated log. The least is 1.
+pub const MOST_REPLICAS: u64 = 5;

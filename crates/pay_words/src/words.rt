@@ -5,38 +5,41 @@ ghost use Rattle.std.specs.List.{list_all};
 ghost use Rattle.clap.specs.Walk.{texts};
 ghost use Rattle.clap.specs.Words.{app_of, first_value, found_of, kind_of, one_text};
 ghost use Rattle.clap.specs.declared.builder.command.Command.TheViews.{out-Command as fields_of};
-ghost use Rattle.pay_words.specs.CommandLine.{GivesAudit, GivesCheck, GivesExplain, GivesPage, GivesRebuild, GivesReplay, GivesRun, GivesServe, GivesStatement};
-ghost use Rattle.pay_words.specs.CommandLine.{HasAudit, HasCheckTexts, HasExplainTexts, HasFaresAndLedger, HasFaresAndZone, HasFiles, HasPageTexts, HasRun, HasServeTexts, HasStatementTexts};
+ghost use Rattle.pay_words.specs.CommandLine.{GivesAudit, GivesCheck, GivesExplain, GivesFollow, GivesPage, GivesRebuild, GivesReplay, GivesRun, GivesServe, GivesStatement};
+ghost use Rattle.pay_words.specs.CommandLine.{HasAudit, HasCheckTexts, HasExplainTexts, HasFaresAndLedger, HasFaresAndZone, HasFiles, HasFollowTexts, HasPageTexts, HasRun, HasServeTexts, HasStatementTexts};
 ghost use Rattle.pay_words.specs.CommandLine.{IsFaultOfKind, IsHelpOrMemory, IsVersionOrMemory, flag_text};
-ghost use Rattle.pay_words.specs.CommandLine.{audit_app, check_app, explain_app, farebox_app, page_app, rebuild_app, replay_app, run_app, serve_app, statement_app};
+ghost use Rattle.pay_words.specs.CommandLine.{audit_app, check_app, explain_app, farebox_app, follow_app, page_app, rebuild_app, replay_app, run_app, serve_app, statement_app};
 ghost use Rattle.pay_words.specs.CommandLine.{flag_option, optional_number, required_number, required_option, required_text, required_word};
 ghost use Rattle.pay_words.specs.CommandLine.{required_words, text_option, with_account_and_day, with_against, with_control, with_end, with_fares_and_zone, with_ledger, with_numbers};
 ghost use Rattle.clap.specs.Words.{App, with_rule, with_subcommand};
 ghost use Rattle.clap.specs.ValueTests.{is_unsigned_in};
 ghost use Rattle.clap.specs.Walk.{rule_of};
 ghost use Rattle.pay_words.specs.Asked.{IsFaultOf, Text, asked, job_asked, AreJobWords, IsJob, IsJobInRange};
-ghost use Rattle.pay_words.specs.Asked.{RunIsTaken, CheckIsTaken, StatementIsTaken, ExplainIsTaken, PageIsTaken, ReplayIsTaken, ServeIsTaken, AuditIsTaken, RebuildIsTaken};
+ghost use Rattle.pay_words.specs.Asked.{RunIsTaken, CheckIsTaken, StatementIsTaken, ExplainIsTaken, PageIsTaken, ReplayIsTaken, ServeIsTaken, AuditIsTaken, RebuildIsTaken, FollowIsTaken};
 ghost use Rattle.pay_dates.specs.Words.{day_of_text};
-ghost use Rattle.pay_words.specs.Asked.{IsAnswer, IsJobOrMemory, allowed, audit_job, check_job, explain_job, page_job, run_job, served_job, service_values, statement_job};
+ghost use Rattle.pay_words.specs.Asked.{IsAnswer, IsJobOrMemory, allowed, audit_job, check_job, explain_job, follow_job, page_job, run_job, served_job, service_values, statement_job};
 ghost use Rattle.pay_words.specs.OneWord.{is_account, is_port};
 ghost use Rattle.pay_words.specs.Audit.{Audit};
 ghost use Rattle.pay_words.specs.Check.{Check, CheckTexts, check_of_texts, has_after_day, has_against};
 ghost use Rattle.pay_words.specs.Explain.{Explain, ExplainTexts, explain_of_texts};
+ghost use Rattle.pay_words.specs.Follow.{AreFollowNumbers, Follow, FollowTexts, follow_of_texts, has_partition, may_follow};
 ghost use Rattle.pay_words.specs.Greeting.{begins_or_ends_with_space, is_greeting, is_printable, is_word_of_staff, may_greet};
+ghost use Rattle.pay_words.specs.Node.{node_port};
 ghost use Rattle.pay_words.specs.Page.{ArePorts, Page, PageTexts, has_control, has_own_port, may_show, page_of_texts};
 ghost use Rattle.pay_words.specs.Run.{Run, has_journal};
 ghost use Rattle.pay_words.specs.Serve.{AreInRange, Serve, ServeTexts, closed_day, has_more, has_no_end, has_ports, leaves_room, numbers_of};
 ghost use Rattle.pay_words.specs.Statement.{Statement, StatementTexts, has_lines, may_state, shows_postings, statement_of_texts};
 ghost use Rattle.pay_words.specs.Asked.{check as check_asked, run as run_asked, without_dashes};
-ghost use Rattle.pay_words.specs.Asked.{audit as audit_asked, explain as explain_asked, page as page_asked, rebuild as rebuild_asked};
+ghost use Rattle.pay_words.specs.Asked.{audit as audit_asked, explain as explain_asked, follow as follow_asked, page as page_asked, rebuild as rebuild_asked};
 ghost use Rattle.pay_words.specs.Asked.{replay as replay_asked, serve as serve_asked, statement as statement_asked, number_of};
 ghost use Rattle.pay_words.specs.declared.words.WordsFault.TheVariants.{Memory};
 
 use crate::help;
 use crate::limits::{
-    MOST_ACCOUNT, MOST_AHEAD, MOST_GREETING_BYTES, MOST_PORT, MOST_SERVED_LANES, MOST_SESSIONS,
-    MOST_SHARDS, MOST_STAYING_LANES,
+    LAST_PARTITION, MOST_ACCOUNT, MOST_AHEAD, MOST_GREETING_BYTES, MOST_PARTITIONS, MOST_PORT,
+    MOST_SERVED_LANES, MOST_SESSIONS, MOST_SHARDS, MOST_STAYING_LANES,
 };
+use crate::node::node_port;
 use clap::builder::ValueParser;
 use clap::error::ErrorKind;
 use clap::{Arg, ArgAction, ArgMatches, Command, Error};
@@ -77,6 +80,9 @@ pub enum Job<'a> {
     Audit(AuditWords<'a>),
     /// `rebuild FARES LEDGER`: the lines of the taps and corrections that a ledger archives.
     Rebuild(RebuildWords<'a>),
+    /// `follow FARES ZONE --log URL --partition P --of N --ledger FILE`: a replica, which answers the lines of a
+    /// partition of a replicated log.
+    Follow(FollowWords<'a>),
 }
 
 /// The values of `run FARES ZONE [--journal FILE [--sync]] [--ledger FILE] [--early]`.
@@ -283,6 +289,23 @@ pub struct RebuildWords<'a> {
     pub ledger: &'a str,
 }
 
+/// The values of `follow FARES ZONE --log URL --partition P --of N --ledger FILE`.
+#[derive(Clone, Copy)]
+pub struct FollowWords<'a> {
+    /// The path of the fare file.
+    pub fares: &'a str,
+    /// The text of the time zone, a POSIX rule.
+    pub zone: &'a str,
+    /// The port of 127.0.0.1 of a node of the log: 1 to 65,535.
+    pub port: u16,
+    /// The partition whose lines are answered: 0 to `of` - 1.
+    pub partition: u8,
+    /// How many partitions the log has: 1 to 16.
+    pub of: u8,
+    /// The path of the SQLite file that days are closed into.
+    pub ledger: &'a str,
+}
+
 /// Why the words give no job.
 #[derive(Debug, Drop, Error)]
 pub enum WordsFault {
@@ -323,6 +346,9 @@ impl From<AllocError> for WordsFault {
 /// journal and a ledger, another port for its staff, and perhaps a greeting: 1 to 128 printable ASCII characters with
 /// no space at either end, and no line by which staff ask something of it. Without `--control` it has both `--sessions`
 /// and `--close`, and no `--ahead`, `--refused` or `--greeting`.
+///
+/// Of `follow`, `--log` names a port of 127.0.0.1, as `nats://127.0.0.1:4222`, and `--partition` is below `--of`. Each
+/// of its options is needed.
 pub fn read_words<'a>(alloc: Global, words: &'a [&'a str]) -> Result<Job<'a>, WordsFault>
     ensures job { IfOk result (λ job. asked (texts words.entry.now) ≡ job_asked job) }
     ensures refused { IfErr result (IsFaultOf (asked (texts words.entry.now))) }
@@ -366,6 +392,10 @@ pub fn read_words<'a>(alloc: Global, words: &'a [&'a str]) -> Result<Job<'a>, Wo
 
     // Two words with no hyphen before them are the values of `rebuild`.
     ensures rebuild { RebuildIsTaken (texts words.entry.now) result }
+
+    // Two words with no hyphen before them, the URL of a node, a partition, how many there are, and a ledger, in any
+    // order, are the values of `follow`, where it is one of the partitions.
+    ensures follow { FollowIsTaken (texts words.entry.now) result }
 {
     pay_dates::laws::named_days();
     let command = farebox_command(alloc)?;
@@ -391,7 +421,8 @@ fn farebox_command<'a>(alloc: Global) -> Result<Command<'a>, AllocError>
     let six = with_program(five, replay_command(alloc));
     let seven = with_program(six, serve_command(alloc));
     let eight = with_program(seven, audit_command(alloc));
-    with_program(eight, rebuild_command(alloc))
+    let nine = with_program(eight, rebuild_command(alloc));
+    with_program(nine, follow_command(alloc))
 }
 
 /// A command with a program more, if both could be made.
@@ -622,6 +653,25 @@ fn rebuild_command<'a>(alloc: Global) -> Result<Command<'a>, AllocError>
     )
 }
 
+fn follow_command<'a>(alloc: Global) -> Result<Command<'a>, AllocError>
+    ensures app { IfOk result (λ command. app_of command ≡ follow_app) }
+    ensures local { IfOk result (λ command. (fields_of command).has_globals ≡ false) }
+{
+    let command = Command::new(alloc, "follow")
+        .about(help::FOLLOW)
+        .after_help(help::BELOW_FOLLOW);
+    let placed = with_two(
+        with_fares_and_zone(alloc, command)?,
+        required_text(alloc, "log", "URL", help::LOG_URL),
+        number_option(alloc, "partition", "P", help::PARTITION, 0, LAST_PARTITION),
+    )?;
+    with_two(
+        placed,
+        number_option(alloc, "of", "N", help::OF, 1, MOST_PARTITIONS),
+        required_text(alloc, "ledger", "FILE", help::LEDGER),
+    )
+}
+
 /// A command with the options that both forms of `serve` need, after the words that it has.
 fn with_numbers<'a>(alloc: Global, command: Command<'a>) -> Result<Command<'a>, AllocError>
     requires { (fields_of command).has_globals ≡ false }
@@ -754,6 +804,7 @@ fn job_of<'a>(alloc: Global, matches: &ArgMatches<'a>) -> Result<Job<'a>, WordsF
     ensures serve { (s : Serve) → GivesServe matches.now s → IsAnswer (allowed (serve_asked s)) result }
     ensures audit { (a : Audit) → GivesAudit matches.now a → IsJob (audit_asked a) result }
     ensures rebuild { (fares ledger : Text) → GivesRebuild matches.now fares ledger → IsJob (rebuild_asked fares ledger) result }
+    ensures follow { (f : Follow) → GivesFollow matches.now f → IsAnswer (allowed (follow_asked f)) result }
 {
     match matches.subcommand() {
         Some(("run", run)) => run_job(run),
@@ -765,6 +816,7 @@ fn job_of<'a>(alloc: Global, matches: &ArgMatches<'a>) -> Result<Job<'a>, WordsF
         Some(("serve", serve)) => serve_job(serve),
         Some(("audit", audit)) => audit_job(audit),
         Some(("rebuild", rebuild)) => rebuild_job(rebuild),
+        Some(("follow", follow)) => follow_job(follow),
         _ => Err(WordsFault::Usage),
     }
 }
@@ -1245,6 +1297,49 @@ fn rebuild_job<'a>(rebuild: &ArgMatches<'a>) -> Result<Job<'a>, WordsFault>
     }
 }
 
+fn follow_job<'a>(follow: &ArgMatches<'a>) -> Result<Job<'a>, WordsFault>
+    ensures { (t : FollowTexts) → HasFollowTexts (found_of follow.now) t → AreFollowNumbers t
+        → IsAnswer (allowed (follow_asked (follow_of_texts t))) result }
+{
+    match follow_words(follow) {
+        Some(words) => followed_job(words),
+        None => Err(WordsFault::Usage),
+    }
+}
+
+/// The values of `follow`, where its URL has a port.
+fn follow_words<'a>(follow: &ArgMatches<'a>) -> Option<FollowWords<'a>>
+    ensures { (t : FollowTexts) → HasFollowTexts (found_of follow.now) t → AreFollowNumbers t
+        → MatchOption result (node_port t.log ≡ None) (λ words. follow_job words ≡ follow_of_texts t) }
+{
+    Some(FollowWords {
+        fares: follow.get_str("FARES")?,
+        zone: follow.get_str("ZONE")?,
+        port: node_port(follow.get_str("log")?)?,
+        partition: count_of(follow, "partition")?,
+        of: count_of(follow, "of")?,
+        ledger: follow.get_str("ledger")?,
+    })
+}
+
+/// The job of `follow`, where there is such a partition.
+fn followed_job(words: FollowWords<'_>) -> Result<Job<'_>, WordsFault>
+    ensures { IsAnswer (allowed (follow_asked (follow_job words.entry))) result }
+{
+    if has_partition(&words) {
+        Ok(Job::Follow(words))
+    } else {
+        Err(WordsFault::Usage)
+    }
+}
+
+/// Whether the partition is one of so many.
+fn has_partition(words: &FollowWords<'_>) -> bool
+    ensures { result ≡ has_partition (follow_job words.now) }
+{
+    words.partition < words.of
+}
+
 /// The port of this name, of the numbers that the matches have.
 fn port_of(matches: &ArgMatches<'_>, name: &str) -> Option<u16>
     ensures none { one_text (found_of matches.now) name.now ≡ None → result ≡ None }
@@ -1255,12 +1350,12 @@ fn port_of(matches: &ArgMatches<'_>, name: &str) -> Option<u16>
 }
 
 /// The number of this name, of those that the matches have, where it is below 256.
-fn count_of(serve: &ArgMatches<'_>, name: &str) -> Option<u8>
-    ensures { (word : Text) (least most : ℕ) → one_text (found_of serve.now) name.now ≡ Some word
+fn count_of(matches: &ArgMatches<'_>, name: &str) -> Option<u8>
+    ensures { (word : Text) (least most : ℕ) → one_text (found_of matches.now) name.now ≡ Some word
         → is_unsigned_in least most word ≡ true → most < 256
         → result ≡ Some (number_of word) }
 {
-    serve.get_one(name)
+    matches.get_one(name)
 }
 
 /// The number of this name, of those that the matches have.

@@ -1,5 +1,5 @@
 use Rattle.clap.specs.Words.{found_of}
-use Rattle.pay_words.proofs.Results.{audit_values, check_texts, explain_texts, page_texts, rebuild_values, replay_values, run_values, serve_texts, statement_texts}
+use Rattle.pay_words.proofs.Results.{audit_values, check_texts, explain_texts, follow_texts, page_texts, rebuild_values, replay_values, run_values, serve_texts, statement_texts}
 use Rattle.pay_words.proofs.words.job_of.Goals as goal
 
 pub returns-in-Some-run-default-clause-run : goal.returns-in-Some-run-default-clause-run
@@ -44,3 +44,8 @@ returns-in-Some-audit-default-clause-audit c = λ a gives.
 pub returns-in-Some-rebuild-default-clause-rebuild : goal.returns-in-Some-rebuild-default-clause-rebuild
 returns-in-Some-rebuild-default-clause-rebuild c = λ fares ledger gives.
     c.rebuild_job.ensures fares ledger (rebuild_values c.args.matches.now (found_of c.in-Some-rebuild-default.rebuild.now) fares ledger c.in-Some-rebuild-default.ensures.rows gives)
+
+pub returns-in-Some-follow-default-clause-follow : goal.returns-in-Some-follow-default-clause-follow
+returns-in-Some-follow-default-clause-follow c = λ f gives.
+    let found = found_of c.in-Some-follow-default.follow.now in
+    rw (← gives.5) (c.follow_job.ensures gives.0 (follow_texts c.args.matches.now found f c.in-Some-follow-default.ensures.rows gives) gives.4)

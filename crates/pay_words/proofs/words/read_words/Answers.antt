@@ -3,7 +3,7 @@ use Rattle.clap.specs.Words.{App, HasMatchesOf, HasKind, Text, app_of, fault_of,
 use Rattle.clap.specs.Walk.{texts}
 use Rattle.pay_words.specs.Asked.{asked, words_ask}
 use Rattle.pay_words.specs.CommandLine.{farebox_app}
-use Rattle.pay_words.proofs.Results.{job_read, matched, refused_as, result_audit, result_check, result_explain, result_in_range, result_job, result_page, result_rebuild, result_refused, result_replay, result_run, result_serve, result_statement, result_words}
+use Rattle.pay_words.proofs.Results.{job_read, matched, refused_as, result_audit, result_check, result_explain, result_follow, result_in_range, result_job, result_page, result_rebuild, result_refused, result_replay, result_run, result_serve, result_statement, result_words}
 use Rattle.pay_words.proofs.words.read_words.Goals as goal
 
 pub returns-in-Ok-clause-job : goal.returns-in-Ok-clause-job
@@ -22,6 +22,7 @@ returns-in-Ok-clause-job c =
       of_serve = c.job_of.ensures.serve;
       of_audit = c.job_of.ensures.audit;
       of_rebuild = c.job_of.ensures.rebuild;
+      of_follow = c.job_of.ensures.follow;
     }))
 
 pub returns-in-Ok-clause-refused : goal.returns-in-Ok-clause-refused
@@ -40,6 +41,7 @@ returns-in-Ok-clause-refused c =
       of_serve = c.job_of.ensures.serve;
       of_audit = c.job_of.ensures.audit;
       of_rebuild = c.job_of.ensures.rebuild;
+      of_follow = c.job_of.ensures.follow;
     }))
 
 pub returns-in-Ok-clause-in_range : goal.returns-in-Ok-clause-in_range
@@ -108,3 +110,9 @@ returns-in-Ok-clause-rebuild c = result_rebuild c.job_of.result (texts c.args.wo
 
 pub returns-in-Err-clause-rebuild : goal.returns-in-Err-clause-rebuild
 returns-in-Err-clause-rebuild c = result_rebuild (Err c.fault_of.result) (texts c.args.words.now) tt (returns-in-Err-clause-refused c)
+
+pub returns-in-Ok-clause-follow : goal.returns-in-Ok-clause-follow
+returns-in-Ok-clause-follow c = result_follow c.job_of.result (texts c.args.words.now) (returns-in-Ok-clause-job c) (returns-in-Ok-clause-refused c)
+
+pub returns-in-Err-clause-follow : goal.returns-in-Err-clause-follow
+returns-in-Err-clause-follow c = result_follow (Err c.fault_of.result) (texts c.args.words.now) tt (returns-in-Err-clause-refused c)
