@@ -1,5 +1,5 @@
 -- The words of which a job was made.
-use Rattle.std.proofs.Common.{◌≡◌, ◌∙◌, ◌&&◌, ℕ, Bool, codes, true, false, refl, sym, subst, ap, List, [], ◌∷◌, Option, Some, None, inl, inr, drop, slice_index, true≢false, ◌≢◌}
+use Rattle.std.proofs.Common.{◌≡◌, ◌∙◌, ◌&&◌, ℕ, Bool, codes, true, false, refl, sym, subst, ap, List, [], ◌∷◌, Option, Some, None, inl, inr, drop, slice_index, true≢false, ◌≢◌, arith}
 use Rattle.clap.specs.Walk.{Row, Text, idle}
 use Rattle.clap.proofs.WalkLemmas.{both}
 use Rattle.clap.specs.Kinds.{Kinds}
@@ -9,8 +9,8 @@ use Rattle.pay_dates.specs.Words.{day_of_text}
 use Rattle.pay_dates.specs.Laws.{BeginWithNoHyphen}
 use Rattle.pay_words.specs.OneWord.{is_account}
 use Rattle.std.proofs.lemmas.Bool.Decides.{eqb_tells}
-use Rattle.pay_words.specs.Asked.{AreAuditWords, AreCheckWords, AreExplainWords, AreFollowWords, ArePageWords, AreRunWords, AreServeWords, AreStatementWords, Asked, HaveNoHyphens, Word, allowed, asked, many_by, many_given, word_kind, words_ask, option_asked, program_asked}
-use Rattle.pay_words.specs.Asked.{audit, audit_asked, audit_of, explain, explain_asked, explain_of, follow, follow_asked, follow_of, page, page_asked, page_of, rebuild, rebuild_asked, rebuild_of}
+use Rattle.pay_words.specs.Asked.{AreAuditWords, AreCheckWords, AreExplainWords, AreFollowWords, AreLogWords, ArePageWords, AreRunWords, AreServeWords, AreStatementWords, Asked, HaveNoHyphens, Word, allowed, asked, many_by, many_given, word_kind, words_ask, option_asked, program_asked}
+use Rattle.pay_words.specs.Asked.{audit, audit_asked, audit_of, explain, explain_asked, explain_of, follow, follow_asked, follow_of, log, log_asked, log_of, page, page_asked, page_of, rebuild, rebuild_asked, rebuild_of}
 use Rattle.pay_words.specs.Asked.{check, check_asked, check_of, replay, replay_asked, run, run_asked, run_of, serve, serve_asked, serve_of, statement, statement_asked, statement_of}
 use Rattle.pay_words.specs.Asked.{Given, with_value, values, help, refused, without_dashes}
 use Rattle.pay_words.specs.Asked as words
@@ -22,6 +22,12 @@ use Rattle.pay_words.specs.Audit.{AreAuditParts, Audit, audit_grammar}
 use Rattle.pay_words.specs.Check.{AreCheckParts, CheckTexts, check_grammar, check_of_texts, may_check}
 use Rattle.pay_words.specs.Explain.{AreExplainParts, ExplainTexts, explain_grammar, explain_of_texts}
 use Rattle.pay_words.specs.Follow.{AreFollowNumbers, AreFollowParts, FollowTexts, follow_grammar, follow_of_texts, may_follow}
+use Rattle.pay_words.specs.Log.{AreLogNumbers, AreLogParts, LogTexts, action_of, log_grammar, log_of_texts, may_log}
+use Rattle.pay_words.specs.Node.{node_port}
+use Rattle.pay_words.specs.OneWord.{number_of}
+use Rattle.std.specs.Str.{bytes_eq}
+use Rattle.std.specs.Prelude.{option_map}
+use Rattle.pay_words.proofs.WordKinds.{same_bytes}
 use Rattle.pay_words.specs.Page.{ArePageParts, ArePorts, PageTexts, may_show, page_grammar, page_of_texts}
 use Rattle.pay_words.specs.Rebuild.{rebuild_grammar}
 use Rattle.pay_words.specs.Run.{AreRunParts, Run, first_given, flags, has_journal, is_given, listed, run_grammar}
@@ -39,6 +45,7 @@ use Rattle.pay_words.proofs.WordsAfterAudit.{audit_apart, audit_built, audit_rul
 use Rattle.pay_words.proofs.WordsAfterCheck.{check_apart, check_built, check_rules, check_shape}
 use Rattle.pay_words.proofs.WordsAfterExplain.{explain_apart, explain_built, explain_rules, explain_shape}
 use Rattle.pay_words.proofs.WordsAfterFollow.{follow_apart, follow_built, follow_rules, follow_shape}
+use Rattle.pay_words.proofs.WordsAfterLog.{log_apart, log_built, log_rules, log_shape}
 use Rattle.pay_words.proofs.WordsAfterOptions.{Comes, Places, Under, ends}
 use Rattle.pay_words.proofs.WordsAfterPage.{page_apart, page_built, page_rules, page_shape}
 use Rattle.pay_words.proofs.WordsAfterRebuild.{rebuild_apart, rebuild_built, rebuild_rules}
@@ -92,6 +99,7 @@ AreWordsOf (serve s) ws = AreServeWords s (without_dashes ws)
 AreWordsOf (audit a) ws = AreAuditWords a (without_dashes ws)
 AreWordsOf (rebuild fares ledger) ws = without_dashes ws ≡ codes "rebuild" ∷ fares ∷ ledger ∷ []
 AreWordsOf (follow f) ws = AreFollowWords f (without_dashes ws)
+AreWordsOf (log l) ws = AreLogWords l (without_dashes ws)
 AreWordsOf _ ws = ⊤
 
 -- what an option was given is the one value that it has, if it has one
@@ -481,6 +489,39 @@ after_follow rest = go (all_said follow_grammar rest) (Level follow_shape [] (st
     go help_wanted ks rows s h = tt
     go not_taken ks rows s h = tt
 
+after_log : (rest : List Text) → AreWordsOf (log_asked (all_said log_grammar rest)) (codes "log" ∷ rest)
+after_log rest = go (all_said log_grammar rest) (Level log_shape [] (stand [] None idle 1 false) rest false []) (rows_from log_shape [] (stand [] None idle 1 false) rest)
+    (says log_grammar (codes "log") log_rules log_built log_apart rest) (ends log_grammar (codes "log") log_rules log_built log_apart rest)
+  where
+    made : (parts : List Part) (had : List Row) → Says log_grammar (codes "log") log_rules log_built log_apart (all_of parts) (without_dashes rest)
+        → ((k : Setting) → Under had k (values_of k parts)) → (vs us ns : List Text) → plain_words parts ≡ vs → values_of log_option parts ≡ us → values_of of_option parts ≡ ns
+        → AreWordsOf (log_of vs us ns (values_of replicas_option parts)) (codes "log" ∷ rest)
+    made parts had s under [] us ns is u n = tt
+    made parts had s under (x ∷ []) us ns is u n = tt
+    made parts had s under (x ∷ a ∷ []) us ns is u n = tt
+    made parts had s under (x ∷ a ∷ b ∷ c ∷ more) us ns is u n = tt
+    made parts had s under (x ∷ a ∷ b ∷ []) [] ns is u n = tt
+    made parts had s under (x ∷ a ∷ b ∷ []) (uw ∷ v ∷ more) ns is u n = tt
+    made parts had s under (x ∷ a ∷ b ∷ []) (uw ∷ []) [] is u n = tt
+    made parts had s under (x ∷ a ∷ b ∷ []) (uw ∷ []) (nw ∷ v ∷ more) is u n = tt
+    made parts had s under (x ∷ a ∷ b ∷ []) (uw ∷ []) (nw ∷ []) is u n = (
+      record { action = x; fares = a; zone = b; log = uw; of = nw; replicas = first_given (values_of replicas_option parts) },
+      parts,
+      ap (λ (l : List Text). codes "log" ∷ l) s.0,
+      (s.1, is, u, n, under_listed had replicas_option (values_of replicas_option parts) (under replicas_option)),
+      (
+        under_fits had of_option (values_of of_option parts) nw n (under of_option),
+        under_reads had replicas_option (values_of replicas_option parts) (under replicas_option),
+      ),
+      refl,
+    )
+
+    go : (x : Said) (ks : Kinds) (rows : List Row) → Says log_grammar (codes "log") log_rules log_built log_apart x (without_dashes rest)
+        → Comes log_grammar (codes "log") log_rules log_built log_apart x ks rows → AreWordsOf (log_asked x) (codes "log" ∷ rest)
+    go (all_of parts) ks rows s h = made parts h.0 s h.1.2 (plain_words parts) (values_of log_option parts) (values_of of_option parts) refl refl refl
+    go help_wanted ks rows s h = tt
+    go not_taken ks rows s h = tt
+
 after_other : (k : Word) (ws : List Text) → AreWordsOf (option_asked k) ws
 after_other words.value ws = tt
 after_other words.dashes ws = tt
@@ -528,6 +569,11 @@ allowed_too (follow f) ws h = go (may_follow f) refl
     go : (fits : Bool) → may_follow f ≡ fits → AreWordsOf (allowed (follow f)) ws
     go true is = rw is h
     go false is = rw is tt
+allowed_too (log l) ws h = go (may_log l) refl
+  where
+    go : (fits : Bool) → may_log l ≡ fits → AreWordsOf (allowed (log l)) ws
+    go true is = rw is h
+    go false is = rw is tt
 allowed_too words.help_asked ws h = tt
 allowed_too words.help_named ws h = tt
 allowed_too words.version_asked ws h = tt
@@ -536,8 +582,8 @@ allowed_too words.usage ws h = tt
 said_in_order : (ws : List Text) → AreWordsOf (words_ask ws) (drop 1 ws)
 said_in_order [] = tt
 said_in_order (name ∷ []) = tt
-said_in_order (name ∷ word ∷ rest) = by_program (λ (w : Text). AreWordsOf (program_asked w rest) (w ∷ rest)) word (after_run rest) (after_check rest) (after_statement rest) (after_explain rest) (after_page rest) (after_replay rest) (after_serve rest) (after_audit rest) (after_rebuild rest) (after_follow rest) tt
-    (λ none. rw (none.0, none.1, none.2, none.3, none.4, none.5, none.6, none.7, none.8, none.9, none.10) (after_other (word_kind word) (word ∷ rest)))
+said_in_order (name ∷ word ∷ rest) = by_program (λ (w : Text). AreWordsOf (program_asked w rest) (w ∷ rest)) word (after_run rest) (after_check rest) (after_statement rest) (after_explain rest) (after_page rest) (after_replay rest) (after_serve rest) (after_audit rest) (after_rebuild rest) (after_follow rest) (after_log rest) tt
+    (λ none. rw (none.0, none.1, none.2, none.3, none.4, none.5, none.6, none.7, none.8, none.9, none.10, none.11) (after_other (word_kind word) (word ∷ rest)))
 
 -- but for the first, and for a `--`, the words are those of the job
 pub in_order : (ws : List Text) → AreWordsOf (asked ws) (drop 1 ws)
@@ -993,3 +1039,72 @@ pub asks_follow : (ws : List Text) (name : Text) (t : FollowTexts) (parts : List
 asks_follow ws name t parts is are may f z fits follows = ap asked is
     ∙ (ap (λ (x : Said). allowed (follow_asked x)) (parts_taken follow_grammar parts (follow_taken t parts are fits f z) may)
     ∙ (ap allowed (follow_is t parts are fits) ∙ (rw follows refl)))
+
+make_has_none : slice_index (codes "make") 0 ≢ 45
+make_has_none e =
+    let byte : 109 ≡ 45 = e in
+    absurd (omega (arith, byte))
+
+check_has_none : slice_index (codes "check") 0 ≢ 45
+check_has_none e =
+    let byte : 99 ≡ 45 = e in
+    absurd (omega (arith, byte))
+
+-- a word that names an action has no hyphen before it
+action_has_none : (word : Text) (replicas : Option ℕ) → is_some (action_of word replicas) ≡ true → slice_index word 0 ≢ 45
+action_has_none word replicas is = go (bytes_eq word (codes "make")) refl (bytes_eq word (codes "check")) refl
+  where
+    go : (m : Bool) → bytes_eq word (codes "make") ≡ m → (c : Bool) → bytes_eq word (codes "check") ≡ c → slice_index word 0 ≢ 45
+    go true m c k = subst (λ (w : Text). slice_index w 0 ≢ 45) (sym (same_bytes word (codes "make") m)) make_has_none
+    go false m true k = subst (λ (w : Text). slice_index w 0 ≢ 45) (sym (same_bytes word (codes "check") k)) check_has_none
+    go false m false k =
+        let none : false ≡ true = rw (m, k) at is in absurd (true≢false (sym none))
+
+module _ (t : LogTexts) (parts : List Part) (are : AreLogParts t parts) (fits : AreLogNumbers t) where
+  none_of_log : (k : Setting) → (IsOption log_grammar k → ⊥) → Once k (values_of k parts)
+  none_of_log k none = subst (Once k) (sym (no_values log_grammar k none parts are.0)) tt
+
+  log_once : (k : Setting) → Once k (values_of k parts)
+  log_once port_option = none_of_log port_option (λ e. cc)
+  log_once lanes_option = none_of_log lanes_option (λ e. cc)
+  log_once shards_option = none_of_log shards_option (λ e. cc)
+  log_once sessions_option = none_of_log sessions_option (λ e. cc)
+  log_once close_option = none_of_log close_option (λ e. cc)
+  log_once control_option = none_of_log control_option (λ e. cc)
+  log_once ahead_option = none_of_log ahead_option (λ e. cc)
+  log_once refused_option = none_of_log refused_option (λ e. cc)
+  log_once greeting_option = none_of_log greeting_option (λ e. cc)
+  log_once journal_option = none_of_log journal_option (λ e. cc)
+  log_once sync_option = none_of_log sync_option (λ e. cc)
+  log_once ledger_option = none_of_log ledger_option (λ e. cc)
+  log_once early_option = none_of_log early_option (λ e. cc)
+  log_once lint_option = none_of_log lint_option (λ e. cc)
+  log_once against_option = none_of_log against_option (λ e. cc)
+  log_once after_option = none_of_log after_option (λ e. cc)
+  log_once week_option = none_of_log week_option (λ e. cc)
+  log_once staff_option = none_of_log staff_option (λ e. cc)
+  log_once long_option = none_of_log long_option (λ e. cc)
+  log_once log_option = subst (Once log_option) (sym are.2) refl
+  log_once partition_option = none_of_log partition_option (λ e. cc)
+  log_once of_option = subst (Once of_option) (sym are.3) fits.0
+  log_once replicas_option = subst (Once replicas_option) (sym are.4) (once_number replicas_option t.replicas fits.1)
+
+  log_taken : slice_index t.action 0 ≢ 45 → slice_index t.fares 0 ≢ 45 → slice_index t.zone 0 ≢ 45 → AreTaken log_grammar parts
+  log_taken x f z = record {
+    are = are.0;
+    fits = subst (Fits log_grammar.places) (sym are.1) (refl, (refl, (refl, tt)));
+    hyphens = subst HaveNoHyphens (sym are.1) (x, (f, (z, tt)));
+    once = log_once;
+  }
+
+  log_is : log_asked (all_of parts) ≡ log (log_of_texts t)
+  log_is = rw (are.1, are.2, are.3, are.4, first_listed t.replicas) refl
+
+pub asks_log : (ws : List Text) (name : Text) (t : LogTexts) (parts : List Part) → ws ≡ name ∷ codes "log" ∷ words_of_parts parts → AreLogParts t parts → StandApart parts
+    → slice_index t.fares 0 ≢ 45 → slice_index t.zone 0 ≢ 45 → AreLogNumbers t → may_log (log_of_texts t) ≡ true → asked ws ≡ log (log_of_texts t)
+asks_log ws name t parts is are may f z fits allows =
+    let acts = (both (is_some (action_of t.action (option_map number_of t.replicas))) (is_some (node_port t.log)) allows).0 in
+    let x = action_has_none t.action (option_map number_of t.replicas) acts in
+    ap asked is
+    ∙ (ap (λ (s : Said). allowed (log_asked s)) (parts_taken log_grammar parts (log_taken t parts are fits x f z) may)
+    ∙ (ap allowed (log_is t parts are fits) ∙ (rw allows refl)))

@@ -16,6 +16,7 @@ mod WordsAfterAudit
 mod WordsAfterCheck
 mod WordsAfterExplain
 mod WordsAfterFollow
+mod WordsAfterLog
 mod WordsAfterOptions
 mod WordsAfterPage
 mod WordsAfterRebuild

@@ -5,13 +5,14 @@ use Rattle.clap.specs.Simple.{subcommand_of}
 use Rattle.clap.specs.Kinds.{Kinds}
 use Rattle.clap.specs.Faults.{fault_of}
 use Rattle.clap.specs.declared.error.kind.ErrorKind.TheVariants.{DisplayHelp, DisplayVersion, InvalidSubcommand, OutOfMemory}
-use Rattle.pay_words.specs.Asked.{Asked, HaveNoHyphens, IsAnswer, IsJobOrMemory, allowed, asked, check_job, number_of, page_job, run, statement_job, check, statement, explain, page, replay, serve, audit, rebuild, follow, words_ask, help_asked, help_named, version_asked, usage, IsFaultOf, job_asked, AreJobWords, IsJobInRange, without_dashes}
+use Rattle.pay_words.specs.Asked.{Asked, HaveNoHyphens, IsAnswer, IsJobOrMemory, allowed, asked, check_job, number_of, page_job, run, statement_job, check, statement, explain, page, replay, serve, audit, rebuild, follow, log, words_ask, help_asked, help_named, version_asked, usage, IsFaultOf, job_asked, AreJobWords, IsJobInRange, without_dashes}
 use Rattle.pay_words.specs.Options.{Part, StandApart, words_of_parts}
 use Rattle.pay_words.specs.Audit.{AreAuditParts, Audit}
 use Rattle.pay_words.specs.Check.{AreCheckParts, Check, CheckTexts, check_of_texts, has_after_day, has_against, may_check}
 use Rattle.pay_words.specs.Explain.{AreExplainParts, Explain, ExplainTexts, explain_of_texts}
 use Rattle.pay_words.specs.Follow.{AreFollowNumbers, AreFollowParts, Follow, FollowTexts, follow_of_texts, may_follow}
 use Rattle.pay_words.specs.Greeting.{is_greeting}
+use Rattle.pay_words.specs.Log.{AreLogNumbers, AreLogParts, IsActionInRange, Log, LogTexts, action_of, log_of_texts, may_log}
 use Rattle.pay_words.specs.Node.{node_port}
 use Rattle.pay_words.specs.Page.{ArePageParts, ArePorts, Page, PageTexts, may_show, page_of_texts}
 use Rattle.pay_words.specs.Run.{AreRunParts, Run, has_journal}
@@ -35,15 +36,19 @@ use Rattle.pay_dates.specs.Words.{day_of_text}
 use Rattle.pay_dates.specs.Laws.{AreServiceDays, BeginWithNoHyphen}
 use Rattle.pay_words.specs.OneWord.{is_account}
 use Rattle.pay_words.specs.declared.words.Job.{Job}
-use Rattle.pay_words.specs.declared.words.Job.TheVariants.{Run as RunJob, Check as CheckJob, Statement as StatementJob, Explain as ExplainJob, Page as PageJob, Replay, Serve as ServeJob, Stay as StayJob, Audit as AuditJob, Rebuild, Follow as FollowJob}
+use Rattle.pay_words.specs.declared.words.Job.TheVariants.{Run as RunJob, Check as CheckJob, Statement as StatementJob, Explain as ExplainJob, Page as PageJob, Replay, Serve as ServeJob, Stay as StayJob, Audit as AuditJob, Rebuild, Follow as FollowJob, Log as LogJob}
+use Rattle.pay_words.specs.declared.words.LogAction.{LogAction}
+use Rattle.pay_words.specs.declared.words.LogAction.TheVariants as actions
+use Rattle.std.specs.Str.{bytes_eq}
+use Rattle.pay_words.specs.OneWord.{is_replicas}
 use Rattle.pay_words.specs.declared.words.WordsFault.{WordsFault}
 use Rattle.pay_words.specs.declared.words.WordsFault.TheVariants.{Help, Version, Usage, Memory}
-use Rattle.pay_words.specs.CommandLine.{GivesAudit, GivesCheck, GivesExplain, GivesFollow, GivesPage, GivesRebuild, GivesReplay, GivesRun, GivesServe, GivesStatement, HasAudit, HasCheckTexts, HasExplainTexts, HasFaresAndLedger, HasFollowTexts, HasPageTexts, HasRun, HasServeTexts, HasStatementTexts, IsFaultOfKind, IsHelpOrMemory, IsVersionOrMemory, farebox_app, values_and_files}
+use Rattle.pay_words.specs.CommandLine.{GivesAudit, GivesCheck, GivesExplain, GivesFollow, GivesLog, GivesPage, GivesRebuild, GivesReplay, GivesRun, GivesServe, GivesStatement, HasAudit, HasCheckTexts, HasExplainTexts, HasFaresAndLedger, HasFollowTexts, HasLogTexts, HasPageTexts, HasRun, HasServeTexts, HasStatementTexts, IsFaultOfKind, IsHelpOrMemory, IsVersionOrMemory, farebox_app, values_and_files}
 use Rattle.pay_words.proofs.NodePorts.{port_text}
 use Rattle.pay_words.proofs.WordKinds.{Refuses, is_refusal}
 use Rattle.pay_words.proofs.WordsOfProgram.{Comes}
 use Rattle.pay_words.proofs.WordsAsked.{comes}
-use Rattle.pay_words.proofs.JobWords.{AreWordsOf, asks_audit, asks_check, asks_explain, asks_follow, asks_page, asks_rebuild, asks_replay, asks_run, asks_serve, asks_statement, in_order}
+use Rattle.pay_words.proofs.JobWords.{AreWordsOf, asks_audit, asks_check, asks_explain, asks_follow, asks_log, asks_page, asks_rebuild, asks_replay, asks_run, asks_serve, asks_statement, in_order}
 
 -- ---- a parse that succeeds
 
@@ -59,6 +64,7 @@ Gives m (serve s) = GivesServe m s
 Gives m (audit a) = GivesAudit m a
 Gives m (rebuild fares ledger) = GivesRebuild m fares ledger
 Gives m (follow f) = GivesFollow m f
+Gives m (log l) = GivesLog m l
 Gives m _ = ⊥
 
 -- a parse that succeeds had the words of a job
@@ -76,6 +82,7 @@ matched ws m none has = go (words_ask ws) (comes ws)
     go (audit a) h = (h.1.0, (has refl).1 ∙ h.1.1, h.1.2)
     go (rebuild fares ledger) h = (h.1.0, (has refl).1 ∙ h.1.1, h.1.2)
     go (follow f) h = (h.1.0, h.1.1, (has refl).1 ∙ h.1.2, h.1.3, h.1.4, h.1.5)
+    go (log l) h = (h.1.0, h.1.1, (has refl).1 ∙ h.1.2, h.1.3, h.1.4, h.1.5)
     go help_asked h =
         let both : [] ≡ DisplayHelp ∷ [] = sym none ∙ h in cc
     go help_named h =
@@ -137,6 +144,7 @@ refused_as ws k fault (inr among) is = go (words_ask ws) (comes ws)
     go (audit a) h = absurd (subst (IsAmong k) h.0 among)
     go (rebuild fares ledger) h = absurd (subst (IsAmong k) h.0 among)
     go (follow f) h = absurd (subst (IsAmong k) h.0 among)
+    go (log l) h = absurd (subst (IsAmong k) h.0 among)
     go help_asked h = elim (subst (IsAmong k) h among) [
       | inl e ↦ called_help help_asked fault (inl refl) (subst (λ (y : ErrorKind). IsFaultOfKind y fault) e is)
       | inr bad ↦ absurd bad
@@ -305,6 +313,21 @@ follow_texts m f x same gives =
       first_value-rows f (codes "ledger") ∙ (ap (first_of (codes "ledger")) rows_are ∙ h.5),
     )
 
+-- the matches of `log` have the words that it is given
+pub log_texts : (m : ArgMatches) (f : Found) (l : Log) → Some (rows_of f) ≡ option_map (λ p. p.1) (subcommand_rows_of m) → (gives : GivesLog m l)
+    → HasLogTexts f gives.0
+log_texts m f l same gives =
+    let some : Some (rows_of f) ≡ Some gives.1 = same ∙ ap (option_map (λ p. p.1)) gives.2 in
+    let rows_are : rows_of f ≡ gives.1 = cc in
+    let h = gives.3 in (
+      first_value-rows f (codes "ACTION") ∙ (ap (first_of (codes "ACTION")) rows_are ∙ h.0),
+      first_value-rows f (codes "FARES") ∙ (ap (first_of (codes "FARES")) rows_are ∙ h.1),
+      first_value-rows f (codes "ZONE") ∙ (ap (first_of (codes "ZONE")) rows_are ∙ h.2),
+      first_value-rows f (codes "log") ∙ (ap (first_of (codes "log")) rows_are ∙ h.3),
+      one_text-rows f (codes "of") ∙ (ap (one_of (codes "of")) rows_are ∙ h.4),
+      one_text-rows f (codes "replicas") ∙ (ap (one_of (codes "replicas")) rows_are ∙ h.5),
+    )
+
 -- ---- the clauses
 
 -- the job that is asked for, `Usage` where none is, or memory was refused
@@ -335,6 +358,7 @@ pub record ReadsJobs (m : ArgMatches) (r : Result Job WordsFault) : Type 0 where
   pub of_audit : (a : Audit) → GivesAudit m a → IsOkAnd r (λ job. job_asked job ≡ audit a)
   pub of_rebuild : (fares ledger : Text) → GivesRebuild m fares ledger → IsOkAnd r (λ job. job_asked job ≡ rebuild fares ledger)
   pub of_follow : (f : Follow) → GivesFollow m f → IsAnswer (allowed (follow f)) r
+  pub of_log : (l : Log) → GivesLog m l → IsAnswer (allowed (log l)) r
 
 pub job_read : (m : ArgMatches) (x : Asked) (r : Result Job WordsFault) → Gives m x → ReadsJobs m r → Answers (allowed x) r
 job_read m (run y) r h reads = answer_answers (allowed (run y)) r (reads.of_run y h)
@@ -347,6 +371,7 @@ job_read m (serve s) r h reads = answer_answers (allowed (serve s)) r (reads.of_
 job_read m (audit a) r h reads = job_answers (audit a) r (reads.of_audit a h)
 job_read m (rebuild fares ledger) r h reads = job_answers (rebuild fares ledger) r (reads.of_rebuild fares ledger h)
 job_read m (follow f) r h reads = answer_answers (allowed (follow f)) r (reads.of_follow f h)
+job_read m (log l) r h reads = answer_answers (allowed (log l)) r (reads.of_log l h)
 job_read m help_asked r h reads = absurd h
 job_read m help_named r h reads = absurd h
 job_read m version_asked r h reads = absurd h
@@ -364,6 +389,7 @@ job_words_are ws (StayJob w) e = subst (λ (x : Asked). AreWordsOf x (drop 1 ws)
 job_words_are ws (AuditJob w) e = subst (λ (x : Asked). AreWordsOf x (drop 1 ws)) e (in_order ws)
 job_words_are ws (Rebuild w) e = subst (λ (x : Asked). AreWordsOf x (drop 1 ws)) e (in_order ws)
 job_words_are ws (FollowJob w) e = subst (λ (x : Asked). AreWordsOf x (drop 1 ws)) e (in_order ws)
+job_words_are ws (LogJob w) e = subst (λ (x : Asked). AreWordsOf x (drop 1 ws)) e (in_order ws)
 
 -- a job is asked for
 abbrev IsTask : Asked → Type 0
@@ -381,7 +407,7 @@ by_memory x y Usage e task (inl h) = absurd (subst IsTask (sym e ∙ h) task)
 by_memory x y Usage e task (inr h) = absurd (subst IsTask (sym e ∙ h) task)
 by_memory x y Memory e task h = refl
 
--- what is asked for has its journal, its day, its other fare file, its clerks, its partition, or what its form of a
+-- what is asked for has its journal, its day, its other fare file, its clerks, its partition, its action, or what its form of a
 -- service needs
 abbrev IsAllowed : Asked → Type 0
 IsAllowed (run r) = has_journal r ≡ true
@@ -391,6 +417,7 @@ IsAllowed (explain e) = is_some e.day ≡ true
 IsAllowed (page p) = may_show p ≡ true
 IsAllowed (serve s) = is_whole s ≡ true
 IsAllowed (follow f) = may_follow f ≡ true
+IsAllowed (log l) = may_log l ≡ true
 IsAllowed _ = ⊤
 
 asked_is_allowed : (x : Asked) → IsAllowed (allowed x)
@@ -429,6 +456,11 @@ asked_is_allowed (follow f) = go (may_follow f) refl
     go : (t : Bool) → may_follow f ≡ t → IsAllowed (allowed (follow f))
     go true is = rw is is
     go false is = rw is tt
+asked_is_allowed (log l) = go (may_log l) refl
+  where
+    go : (t : Bool) → may_log l ≡ t → IsAllowed (allowed (log l))
+    go true is = rw is is
+    go false is = rw is tt
 asked_is_allowed (replay a b files) = tt
 asked_is_allowed (audit a) = tt
 asked_is_allowed (rebuild fares ledger) = tt
@@ -456,6 +488,31 @@ given_in_range least most None (Some n) fits is = cc
 given_in_range least most (Some w) (Some n) fits is =
     let same : number_of w ≡ n = cc in
     number_in_range least most w n fits same
+
+-- so is the number of an action
+action_in_range : (word : Text) (replicas : Option Text) (action : LogAction) → action_of word (option_map number_of replicas) ≡ Some action
+    → IfSome replicas (λ w. is_replicas w ≡ true) → IsActionInRange action
+action_in_range word replicas actions.Check is fits = tt
+action_in_range word None (actions.Make n) is fits = go (bytes_eq word (codes "make")) refl (bytes_eq word (codes "check")) refl
+  where
+    go : (m : Bool) → bytes_eq word (codes "make") ≡ m → (c : Bool) → bytes_eq word (codes "check") ≡ c → IsActionInRange (actions.Make n)
+    go true m c k =
+        let none : None ≡ Some (actions.Make n) = rw m at is in cc
+    go false m true k =
+        let other : Some actions.Check ≡ Some (actions.Make n) = rw (m, k) at is in cc
+    go false m false k =
+        let none : None ≡ Some (actions.Make n) = rw (m, k) at is in cc
+action_in_range word (Some w) (actions.Make n) is fits = go (bytes_eq word (codes "make")) refl (bytes_eq word (codes "check")) refl
+  where
+    go : (m : Bool) → bytes_eq word (codes "make") ≡ m → (c : Bool) → bytes_eq word (codes "check") ≡ c → IsActionInRange (actions.Make n)
+    go true m c k =
+        let made : Some (actions.Make (number_of w)) ≡ Some (actions.Make n) = rw m at is in
+        let same : number_of w ≡ n = cc in
+        number_in_range 1 5 w n fits same
+    go false m true k =
+        let none : None ≡ Some (actions.Make n) = rw (m, k) at is in cc
+    go false m false k =
+        let none : None ≡ Some (actions.Make n) = rw (m, k) at is in cc
 
 -- a day that is given is a service day
 days_are : AreServiceDays → (word : Option Text) (day : Option ℕ) → option_map day_of_text word ≡ option_map Some day → IfSome day IsDay
@@ -538,6 +595,11 @@ job_in_range service ws (FollowJob w) e =
     let of = number_in_range 1 16 made.0.of w.of made.4.1 (ap (λ (f : Follow). f.of) made.5) in
     let within : w.partition < w.of = ltb-true w.partition w.of (subst IsAllowed e (asked_is_allowed (words_ask ws))) in
     (port.0, port.1, within, of.1)
+job_in_range service ws (LogJob w) e =
+    let made = job_words_are ws (LogJob w) e in
+    let port = node_in_range made.0.log w.port (ap (λ (l : Log). l.port) made.5) in
+    let of = number_in_range 1 16 made.0.of w.of made.4.0 (ap (λ (l : Log). l.of) made.5) in
+    (port.0, port.1, of.0, of.1, action_in_range made.0.action made.0.replicas w.action (ap (λ (l : Log). l.action) made.5) made.4.1)
 
 pub result_in_range : AreServiceDays → (r : Result Job WordsFault) (ws : List Text) → IfOk r (λ job. asked ws ≡ job_asked job) → IfOk r IsJobInRange
 result_in_range service (Ok job) ws h = job_in_range service ws job h
@@ -602,3 +664,7 @@ module _ (r : Result Job WordsFault) (ws : List Text) (ok : IfOk r (λ job. aske
   pub result_follow : (name : Text) (t : FollowTexts) (parts : List Part) → ws ≡ name ∷ codes "follow" ∷ words_of_parts parts → AreFollowParts t parts → StandApart parts
       → slice_index t.fares 0 ≢ 45 → slice_index t.zone 0 ≢ 45 → AreFollowNumbers t → may_follow (follow_of_texts t) ≡ true → IsJobOrMemory (follow (follow_of_texts t)) r
   result_follow name t parts is are may f z fits follows = job_or_memory r ws (follow (follow_of_texts t)) ok err (asks_follow ws name t parts is are may f z fits follows) tt
+
+  pub result_log : (name : Text) (t : LogTexts) (parts : List Part) → ws ≡ name ∷ codes "log" ∷ words_of_parts parts → AreLogParts t parts → StandApart parts
+      → slice_index t.fares 0 ≢ 45 → slice_index t.zone 0 ≢ 45 → AreLogNumbers t → may_log (log_of_texts t) ≡ true → IsJobOrMemory (log (log_of_texts t)) r
+  result_log name t parts is are may f z fits allows = job_or_memory r ws (log (log_of_texts t)) ok err (asks_log ws name t parts is are may f z fits allows) tt

@@ -6,13 +6,14 @@ use Rattle.clap.specs.Simple.{App, Shape, built, built_leaf, entered, help_shape
 use Rattle.clap.specs.Kinds.{Kinds, or_else}
 use Rattle.clap.specs.Faults.{check_fault, defaults_fault, entered_fault, fault_of, flags_fault, settle_fault, turn_fault, walk_fault}
 use Rattle.clap.specs.declared.error.kind.ErrorKind.TheVariants.{DisplayHelp, DisplayVersion, InvalidSubcommand, UnknownArgument}
-use Rattle.pay_words.specs.Asked.{Asked, Word, words_ask, check_asked, many_given, word_kind, option_asked, program_asked, audit_asked, explain_asked, follow_asked, page_asked, rebuild_asked, replay_asked, run_asked, serve_asked, statement_asked}
+use Rattle.pay_words.specs.Asked.{Asked, Word, words_ask, check_asked, many_given, word_kind, option_asked, program_asked, audit_asked, explain_asked, follow_asked, log_asked, page_asked, rebuild_asked, replay_asked, run_asked, serve_asked, statement_asked}
 use Rattle.pay_words.specs.Asked as words
 use Rattle.pay_words.specs.Options.{all_said}
 use Rattle.pay_words.specs.Audit.{audit_grammar}
 use Rattle.pay_words.specs.Check.{check_grammar}
 use Rattle.pay_words.specs.Explain.{explain_grammar}
 use Rattle.pay_words.specs.Follow.{follow_grammar}
+use Rattle.pay_words.specs.Log.{log_grammar}
 use Rattle.pay_words.specs.Page.{page_grammar}
 use Rattle.pay_words.specs.Rebuild.{rebuild_grammar}
 use Rattle.pay_words.specs.Run.{run_grammar}
@@ -27,6 +28,7 @@ use Rattle.pay_words.proofs.WordsAfterAudit.{audit_ends, audit_shape}
 use Rattle.pay_words.proofs.WordsAfterCheck.{check_ends, check_shape}
 use Rattle.pay_words.proofs.WordsAfterExplain.{explain_ends, explain_shape}
 use Rattle.pay_words.proofs.WordsAfterFollow.{follow_ends, follow_shape}
+use Rattle.pay_words.proofs.WordsAfterLog.{log_ends, log_shape}
 use Rattle.pay_words.proofs.WordsAfterPage.{page_ends, page_shape}
 use Rattle.pay_words.proofs.WordsAfterRebuild.{rebuild_ends, rebuild_shape}
 use Rattle.pay_words.proofs.WordsAfterReplay.{replay_ends, replay_shape}
@@ -41,13 +43,13 @@ abbrev help_built : Shape
 help_built = built_leaf (record help_shape { disable_help_subcommand = true })
 
 abbrev farebox_built : App
-farebox_built = record { top = top_shape; subs = run_shape ∷ check_shape ∷ statement_shape ∷ explain_shape ∷ page_shape ∷ replay_shape ∷ serve_shape ∷ audit_shape ∷ rebuild_shape ∷ follow_shape ∷ help_built ∷ [] }
+farebox_built = record { top = top_shape; subs = run_shape ∷ check_shape ∷ statement_shape ∷ explain_shape ∷ page_shape ∷ replay_shape ∷ serve_shape ∷ audit_shape ∷ rebuild_shape ∷ follow_shape ∷ log_shape ∷ help_built ∷ [] }
 
 built_farebox : built farebox_app ≡ farebox_built
 built_farebox = refl
 
 abbrev names : Names
-names = (codes "run", []) ∷ (codes "check", []) ∷ (codes "statement", []) ∷ (codes "explain", []) ∷ (codes "page", []) ∷ (codes "replay", []) ∷ (codes "serve", []) ∷ (codes "audit", []) ∷ (codes "rebuild", []) ∷ (codes "follow", []) ∷ (codes "help", []) ∷ []
+names = (codes "run", []) ∷ (codes "check", []) ∷ (codes "statement", []) ∷ (codes "explain", []) ∷ (codes "page", []) ∷ (codes "replay", []) ∷ (codes "serve", []) ∷ (codes "audit", []) ∷ (codes "rebuild", []) ∷ (codes "follow", []) ∷ (codes "log", []) ∷ (codes "help", []) ∷ []
 
 top_long : LongOptions top_shape.rules true
 top_long name = refl
@@ -186,6 +188,14 @@ follow_entered : (rest : List Text) → entered farebox_built (end_of start (cod
 unfolding walked
 follow_entered rest = ap (λ (w : Walk). entered farebox_built w.stopped) (met_words (codes "follow") [] rest)
 
+met_log : (rest : List Text) → whole start (codes "log" ∷ rest) ≡ below log_shape rest
+unfolding walked walk_fault defaults_fault
+met_log rest = ap₂ end_kinds (no_kinds (codes "log") [] rest) (met_words (codes "log") [] rest) ∙ or_nothing (below log_shape rest)
+
+log_entered : (rest : List Text) → entered farebox_built (end_of start (codes "log" ∷ rest)).stopped ≡ Some (codes "log", rows_below log_shape rest)
+unfolding walked
+log_entered rest = ap (λ (w : Walk). entered farebox_built w.stopped) (met_words (codes "log") [] rest)
+
 lifted : (x : Asked) (ks all : Kinds) (sub entry : Option (Text × List Row)) → all ≡ ks → entry ≡ sub → Comes x ks sub → Comes x all entry
 lifted x ks all sub entry same is h =
     subst (λ (k : Kinds). Comes x k entry) (sym same) (subst (λ (e : Option (Text × List Row)). Comes x ks e) (sym is) h)
@@ -231,6 +241,10 @@ rebuild_comes name rest = lifted (rebuild_asked (all_said rebuild_grammar rest))
 follow_comes : (name : Text) (rest : List Text) → Comes (follow_asked (all_said follow_grammar rest)) (fault_of farebox_app (name ∷ codes "follow" ∷ rest)) (subcommand_of farebox_app (name ∷ codes "follow" ∷ rest))
 follow_comes name rest = lifted (follow_asked (all_said follow_grammar rest)) (below follow_shape rest) _ (Some (codes "follow", rows_below follow_shape rest)) _
     (fault_is name (codes "follow" ∷ rest) ∙ met_follow rest) (subcommand_is name (codes "follow" ∷ rest) ∙ follow_entered rest) (follow_ends rest)
+
+log_comes : (name : Text) (rest : List Text) → Comes (log_asked (all_said log_grammar rest)) (fault_of farebox_app (name ∷ codes "log" ∷ rest)) (subcommand_of farebox_app (name ∷ codes "log" ∷ rest))
+log_comes name rest = lifted (log_asked (all_said log_grammar rest)) (below log_shape rest) _ (Some (codes "log", rows_below log_shape rest)) _
+    (fault_is name (codes "log" ∷ rest) ∙ met_log rest) (subcommand_is name (codes "log" ∷ rest) ∙ log_entered rest) (log_ends rest)
 
 -- ---- any other word
 
@@ -279,8 +293,8 @@ unfolding walk_fault flags_fault walked defaults_fault
 comes [] = refl
 comes (name ∷ []) = refl
 comes (name ∷ word ∷ rest) = by_program (λ (w : Text). Comes (program_asked w rest) (fault_of farebox_app (name ∷ w ∷ rest)) (subcommand_of farebox_app (name ∷ w ∷ rest)))
-    word (run_comes name rest) (check_comes name rest) (statement_comes name rest) (explain_comes name rest) (page_comes name rest) (replay_comes name rest) (serve_comes name rest) (audit_comes name rest) (rebuild_comes name rest) (follow_comes name rest) refl (λ none.
-    let unmet : subcommand_met names idle word ≡ None = rw (none.0, none.1, none.2, none.3, none.4, none.5, none.6, none.7, none.8, none.9, none.10) refl in
-    let asks : program_asked word rest ≡ option_asked (word_kind word) = rw (none.0, none.1, none.2, none.3, none.4, none.5, none.6, none.7, none.8, none.9, none.10) refl in
+    word (run_comes name rest) (check_comes name rest) (statement_comes name rest) (explain_comes name rest) (page_comes name rest) (replay_comes name rest) (serve_comes name rest) (audit_comes name rest) (rebuild_comes name rest) (follow_comes name rest) (log_comes name rest) refl (λ none.
+    let unmet : subcommand_met names idle word ≡ None = rw (none.0, none.1, none.2, none.3, none.4, none.5, none.6, none.7, none.8, none.9, none.10, none.11) refl in
+    let asks : program_asked word rest ≡ option_asked (word_kind word) = rw (none.0, none.1, none.2, none.3, none.4, none.5, none.6, none.7, none.8, none.9, none.10, none.11) refl in
     subst (λ (x : Asked). Comes x (fault_of farebox_app (name ∷ word ∷ rest)) (subcommand_of farebox_app (name ∷ word ∷ rest))) (sym asks)
     (option_comes name word rest unmet (word_kind word) (reads top_shape.rules true top_long top_short [] [] None refl word)))

@@ -9,18 +9,19 @@ use Rattle.clap.specs.declared.builder.range.ValueRange.{ValueRange}
 use Rattle.clap.specs.declared.builder.value_parser.ValueParser.TheVariants as vp
 use Rattle.clap.specs.declared.error.kind.ErrorKind.TheVariants.{DisplayHelp, DisplayVersion, InvalidSubcommand}
 use Rattle.clap.specs.declared.parser.matches.ValueSource.TheVariants.{CommandLine}
-use Rattle.pay_words.specs.Asked.{Asked, Word, run, check, statement, explain, page, replay, serve, audit, rebuild, follow, help_asked, help_named, version_asked, usage}
+use Rattle.pay_words.specs.Asked.{Asked, Word, run, check, statement, explain, page, replay, serve, audit, rebuild, follow, log, help_asked, help_named, version_asked, usage}
 use Rattle.pay_words.specs.Asked as words
 use Rattle.pay_words.specs.Audit.{Audit}
 use Rattle.pay_words.specs.Check.{Check, CheckTexts, check_of_texts}
 use Rattle.pay_words.specs.Explain.{Explain, ExplainTexts, explain_of_texts}
 use Rattle.pay_words.specs.Follow.{AreFollowNumbers, Follow, FollowTexts, follow_of_texts}
+use Rattle.pay_words.specs.Log.{AreLogNumbers, Log, LogTexts, log_of_texts}
 use Rattle.pay_words.specs.OneWord.{is_account}
 use Rattle.pay_words.specs.Page.{ArePorts, Page, PageTexts, page_of_texts}
 use Rattle.pay_words.specs.Run.{Run}
 use Rattle.pay_words.specs.Serve.{AreInRange, Serve, ServeTexts, numbers_of}
 use Rattle.pay_words.specs.Statement.{Statement, StatementTexts, statement_of_texts}
-use Rattle.pay_words.specs.CommandLine.{HaveAudit, HaveCheckTexts, HaveExplainTexts, HaveFaresAndLedger, HaveFollowTexts, HavePageTexts, HaveRun, HaveServeTexts, HaveStatementTexts, required_word}
+use Rattle.pay_words.specs.CommandLine.{HaveAudit, HaveCheckTexts, HaveExplainTexts, HaveFaresAndLedger, HaveFollowTexts, HaveLogTexts, HavePageTexts, HaveRun, HaveServeTexts, HaveStatementTexts, required_word}
 use Rattle.pay_words.proofs.WordKinds.{LongOptions, Reads, Refuses, ShortOptions}
 use Rattle.pay_words.proofs.WordLevels.{Level, level_next, level_refuses, level_shows, place, rows_from, rows_next, turn_dashes, turn_refuses, turn_shows, turn_value, walked_dashes, walked_value}
 
@@ -97,6 +98,10 @@ ComesWithLedger fares ledger sub = (rows : List Row) × (sub ≡ Some (codes "re
 abbrev pub ComesWithPartition : Follow → Option (Text × List Row) → Type 0
 ComesWithPartition f sub = (t : FollowTexts) × (rows : List Row) × (sub ≡ Some (codes "follow", rows)) × HaveFollowTexts rows t × AreFollowNumbers t × (follow_of_texts t ≡ f)
 
+-- the matches are of words that `log` is given, of these values
+abbrev pub ComesWithAction : Log → Option (Text × List Row) → Type 0
+ComesWithAction l sub = (t : LogTexts) × (rows : List Row) × (sub ≡ Some (codes "log", rows)) × HaveLogTexts rows t × AreLogNumbers t × (log_of_texts t ≡ l)
+
 -- what a parse comes to, by what the words ask for
 abbrev pub Comes : Asked → Kinds → Option (Text × List Row) → Type 0
 Comes (run r) ks sub = (ks ≡ []) × ComesWithRun r sub
@@ -109,6 +114,7 @@ Comes (serve s) ks sub = (ks ≡ []) × ComesWithOptions s sub
 Comes (audit a) ks sub = (ks ≡ []) × ComesWithAudit a sub
 Comes (rebuild fares ledger) ks sub = (ks ≡ []) × ComesWithLedger fares ledger sub
 Comes (follow f) ks sub = (ks ≡ []) × ComesWithPartition f sub
+Comes (log l) ks sub = (ks ≡ []) × ComesWithAction l sub
 Comes help_asked ks sub = ks ≡ DisplayHelp ∷ []
 Comes help_named ks sub = ks ≡ DisplayHelp ∷ InvalidSubcommand ∷ []
 Comes version_asked ks sub = ks ≡ DisplayVersion ∷ []

@@ -8,7 +8,7 @@ use Rattle.pay_dates.specs.Reading.{day_on_literals}
 use Rattle.pay_dates.specs.Words.{day_of_text}
 use Rattle.pay_day.specs.Words.{IsDay}
 use Rattle.pay_words.specs.declared.words.Job.{Job}
-use Rattle.pay_words.specs.declared.words.Job.TheVariants.{Run as RunJob, Check as CheckJob, Statement as StatementJob, Explain as ExplainJob, Page as PageJob, Replay, Serve as ServeJob, Stay as StayJob, Audit as AuditJob, Rebuild, Follow as FollowJob}
+use Rattle.pay_words.specs.declared.words.Job.TheVariants.{Run as RunJob, Check as CheckJob, Statement as StatementJob, Explain as ExplainJob, Page as PageJob, Replay, Serve as ServeJob, Stay as StayJob, Audit as AuditJob, Rebuild, Follow as FollowJob, Log as LogJob}
 use Rattle.pay_words.specs.declared.words.RunWords.{RunWords}
 use Rattle.pay_words.specs.declared.words.CheckWords.{CheckWords}
 use Rattle.pay_words.specs.declared.words.StatementWords.{StatementWords}
@@ -19,6 +19,8 @@ use Rattle.pay_words.specs.declared.words.StayWords.{StayWords}
 use Rattle.pay_words.specs.declared.words.Service.{Service}
 use Rattle.pay_words.specs.declared.words.AuditWords.{AuditWords}
 use Rattle.pay_words.specs.declared.words.FollowWords.{FollowWords}
+use Rattle.pay_words.specs.declared.words.LogAction.TheVariants as actions
+use Rattle.pay_words.specs.declared.words.LogWords.{LogWords}
 use Rattle.pay_words.specs.declared.words.WordsFault.{WordsFault}
 use Rattle.pay_words.specs.declared.words.WordsFault.TheVariants.{Help, Version, Usage, Memory}
 use Rattle.pay_words.specs.declared.limits.TheConstants.{MOST_ACCOUNT, MOST_PORT, MOST_SERVED_LANES, MOST_STAYING_LANES, MOST_SHARDS, MOST_SESSIONS, MOST_AHEAD, MOST_PARTITIONS}
@@ -27,12 +29,13 @@ pub use Rattle.pay_words.specs.OneWord.{Reader, any_text, is_account, is_port, n
 pub use Rattle.pay_words.specs.Options.{HasNoHyphen}
 use Rattle.pay_words.specs.Options.{Part, Said, StandApart, all_of, all_said, help_wanted, not_taken, plain, apart, joined, plain_words, values_of, words_of_parts}
 use Rattle.pay_words.specs.Options.{port_option, lanes_option, shards_option, sessions_option, close_option, control_option, ahead_option, refused_option, greeting_option, journal_option, sync_option, ledger_option, early_option}
-use Rattle.pay_words.specs.Options.{lint_option, against_option, after_option, week_option, staff_option, long_option, log_option, partition_option, of_option}
+use Rattle.pay_words.specs.Options.{lint_option, against_option, after_option, week_option, staff_option, long_option, log_option, partition_option, of_option, replicas_option}
 use Rattle.pay_words.specs.Audit.{AreAuditParts, Audit, audit_grammar}
 use Rattle.pay_words.specs.Check.{AreCheckParts, Check, CheckTexts, check_grammar, check_of_texts, has_against, may_check}
 use Rattle.pay_words.specs.Explain.{AreExplainParts, Explain, ExplainTexts, explain_grammar, explain_of_texts}
 use Rattle.pay_words.specs.Follow.{AreFollowNumbers, AreFollowParts, Follow, FollowTexts, follow_grammar, follow_of_texts, may_follow}
 use Rattle.pay_words.specs.Greeting.{is_greeting}
+use Rattle.pay_words.specs.Log.{AreLogNumbers, AreLogParts, IsActionInRange, Log, LogTexts, log_grammar, log_of_texts, may_log}
 use Rattle.pay_words.specs.Node.{node_port}
 use Rattle.pay_words.specs.Page.{ArePageParts, ArePorts, Page, PageTexts, has_control, may_show, page_grammar, page_of_texts}
 use Rattle.pay_words.specs.Rebuild.{rebuild_grammar}
@@ -90,6 +93,8 @@ pub data Asked : Type 0 where
   rebuild : Text → Text → Asked
   -- `follow` with its fare file and zone, and the values of its options
   follow : Follow → Asked
+  -- `log` with its action, fare file and zone, and the values of its options
+  log : Log → Asked
   -- help, by `-h` or `--help`
   help_asked : Asked
   -- the word `help`: help, or usage where a word after it names no program
@@ -276,6 +281,24 @@ follow_asked (all_of parts) = follow_of (plain_words parts) (values_of log_optio
 follow_asked help_wanted = help_asked
 follow_asked not_taken = usage
 
+-- three values, one value for each option that is needed, and what the other was given
+abbrev pub log_of : List Text → List Text → List Text → List Text → Asked
+log_of (action ∷ fares ∷ zone ∷ []) (u ∷ []) (n ∷ []) r = log (log_of_texts (record {
+  action = action;
+  fares = fares;
+  zone = zone;
+  log = u;
+  of = n;
+  replicas = first_given r;
+}))
+log_of _ _ _ _ = usage
+
+-- `log ACTION FARES ZONE` and its options
+abbrev pub log_asked : Said → Asked
+log_asked (all_of parts) = log_of (plain_words parts) (values_of log_option parts) (values_of of_option parts) (values_of replicas_option parts)
+log_asked help_wanted = help_asked
+log_asked not_taken = usage
+
 abbrev pub option_asked : Word → Asked
 option_asked call_for_help = help_asked
 option_asked call_for_version = version_asked
@@ -292,8 +315,9 @@ program_asked program rest = if bytes_eq (codes "run") program then run_asked (a
     else (if bytes_eq (codes "audit") program then audit_asked (all_said audit_grammar rest)
     else (if bytes_eq (codes "rebuild") program then rebuild_asked (all_said rebuild_grammar rest)
     else (if bytes_eq (codes "follow") program then follow_asked (all_said follow_grammar rest)
+    else (if bytes_eq (codes "log") program then log_asked (all_said log_grammar rest)
     else (if bytes_eq (codes "help") program then help_named
-    else option_asked (word_kind program)))))))))))
+    else option_asked (word_kind program))))))))))))
 
 -- the first word is the program's own name, and the second names what it is to do
 abbrev pub words_ask : List Text → Asked
@@ -302,8 +326,8 @@ words_ask _ = usage
 
 -- a service ends or stays, a run without a journal brings no lines to the disk, a day is one, days up to one are
 -- compared with another fare file alone, a long statement has a journal, by which alone it has a ledger, pages ask a
--- service at a port of their own, without which they have no clerks, and what follows a log has a node and one of its
--- partitions
+-- service at a port of their own, without which they have no clerks, what follows a log has a node and one of its
+-- partitions, what makes one has a node and a number of replicas, and what checks one has a node alone
 abbrev pub allowed : Asked → Asked
 allowed (run r) = if has_journal r then run r else usage
 allowed (check c) = if may_check c then check c else usage
@@ -312,6 +336,7 @@ allowed (explain e) = if is_some e.day then explain e else usage
 allowed (page p) = if may_show p then page p else usage
 allowed (serve s) = if is_whole s then serve s else usage
 allowed (follow f) = if may_follow f then follow f else usage
+allowed (log l) = if may_log l then log l else usage
 allowed what = what
 
 abbrev pub asked : List Text → Asked
@@ -448,6 +473,15 @@ follow_job w = record {
   ledger = w.ledger.now;
 }
 
+abbrev pub log_job : LogWords → Log
+log_job w = record {
+  action = Some w.action;
+  fares = w.fares.now;
+  zone = w.zone.now;
+  port = Some w.port;
+  of = w.of;
+}
+
 abbrev pub job_asked : Job → Asked
 job_asked (RunJob w) = run (run_job w)
 job_asked (CheckJob w) = check (check_job w)
@@ -460,6 +494,7 @@ job_asked (StayJob w) = serve (staying_job w)
 job_asked (AuditJob w) = audit (audit_job w)
 job_asked (Rebuild w) = rebuild w.fares.now w.ledger.now
 job_asked (FollowJob w) = follow (follow_job w)
+job_asked (LogJob w) = log (log_job w)
 
 -- the words of `run` say what it is asked for, in some order
 abbrev pub AreRunWords : Run → List Text → Type 0
@@ -499,6 +534,11 @@ abbrev pub AreFollowWords : Follow → List Text → Type 0
 AreFollowWords f words = (t : FollowTexts) × (parts : List Part) × (words ≡ codes "follow" ∷ words_of_parts parts)
     × AreFollowParts t parts × AreFollowNumbers t × (follow_of_texts t ≡ f)
 
+-- the words of `log` do
+abbrev pub AreLogWords : Log → List Text → Type 0
+AreLogWords l words = (t : LogTexts) × (parts : List Part) × (words ≡ codes "log" ∷ words_of_parts parts)
+    × AreLogParts t parts × AreLogNumbers t × (log_of_texts t ≡ l)
+
 -- the words that the job was made of
 abbrev pub AreJobWords : Job → List Text → Type 0
 AreJobWords (RunJob w) words = AreRunWords (run_job w) words
@@ -512,11 +552,13 @@ AreJobWords (StayJob w) words = AreServeWords (staying_job w) words
 AreJobWords (AuditJob w) words = AreAuditWords (audit_job w) words
 AreJobWords (Rebuild w) words = words ≡ codes "rebuild" ∷ w.fares.now ∷ w.ledger.now ∷ []
 AreJobWords (FollowJob w) words = AreFollowWords (follow_job w) words
+AreJobWords (LogJob w) words = AreLogWords (log_job w) words
 
 -- the numbers of a job are in their ranges, what is synced is a journal, days up to one are compared with another
 -- fare file, a long statement has a journal and a short one no ledger, there is a journal to be replayed, the staff of a service that stays have a port of their own, also where
 -- pages ask something of them, without which pages have no clerks, a greeting is one, where there is any, and what
--- follows a log has a port of a node and one of its partitions
+-- follows a log has a port of a node and one of its partitions, as what makes or checks one has a port, some partitions,
+-- and replicas where it is made
 abbrev pub IsJobInRange : Job → Type 0
 IsJobInRange (RunJob w) = has_journal (run_job w) ≡ true
 IsJobInRange (CheckJob w) = (has_against (check_job w) ≡ true) × IfSome w.after IsDay
@@ -535,6 +577,7 @@ IsJobInRange (StayJob w) = (1 ≤ w.port) × (1 ≤ w.control) × (w.control ≢
 IsJobInRange (AuditJob w) = ⊤
 IsJobInRange (Rebuild w) = ⊤
 IsJobInRange (FollowJob w) = (1 ≤ w.port) × (w.port ≤ MOST_PORT) × (w.partition < w.of) × (w.of ≤ MOST_PARTITIONS)
+IsJobInRange (LogJob w) = (1 ≤ w.port) × (w.port ≤ MOST_PORT) × (1 ≤ w.of) × (w.of ≤ MOST_PARTITIONS) × IsActionInRange w.action
 
 -- what the fault says of the words; memory may be refused at any words
 abbrev pub IsFaultOf : Asked → WordsFault → Type 0
@@ -637,6 +680,14 @@ FollowIsTaken words result = (name : Text) (t : FollowTexts) (parts : List Part)
     → AreFollowParts t parts → StandApart parts → HasNoHyphen t.fares → HasNoHyphen t.zone → AreFollowNumbers t
     → may_follow (follow_of_texts t) ≡ true
     → IsJobOrMemory (follow (follow_of_texts t)) result
+
+-- an action, two words with no hyphen before them, the options that are needed once, and the replicas where the action
+-- needs them, in whatever order, are those of `log`, where the URL has a port
+abbrev pub LogIsTaken : List Text → Result Job WordsFault → Type 0
+LogIsTaken words result = (name : Text) (t : LogTexts) (parts : List Part) → words ≡ name ∷ codes "log" ∷ words_of_parts parts
+    → AreLogParts t parts → StandApart parts → HasNoHyphen t.fares → HasNoHyphen t.zone → AreLogNumbers t
+    → may_log (log_of_texts t) ≡ true
+    → IsJobOrMemory (log (log_of_texts t)) result
 
 -- ---- worked rows
 
@@ -1657,6 +1708,136 @@ follow_help_row = refl
 partition_of_run_row : row (codes "run" ∷ codes "a" ∷ codes "b" ∷ codes "--partition=2" ∷ []) ≡ usage
 unfolding chars
 partition_of_run_row = refl
+
+abbrev log_words : Text → List Text → List Text
+log_words action options = codes "log" ∷ action ∷ codes "a" ∷ codes "b" ∷ codes "--log=nats://127.0.0.1:4222" ∷ options
+
+abbrev checked_log : Log
+checked_log = record { action = Some actions.Check; fares = codes "a"; zone = codes "b"; port = Some 4_222; of = 4 }
+
+abbrev made_log : Log
+made_log = record checked_log { action = Some (actions.Make 3) }
+
+log_make_row : row (codes "log" ∷ codes "make" ∷ codes "a" ∷ codes "b" ∷ codes "--log" ∷ codes "nats://127.0.0.1:4222" ∷ codes "--of" ∷ codes "4" ∷ codes "--replicas" ∷ codes "3" ∷ [])
+    ≡ log made_log
+unfolding chars node_port
+log_make_row = refl
+
+log_check_row : row (log_words (codes "check") (codes "--of=4" ∷ [])) ≡ log checked_log
+unfolding chars node_port
+log_check_row = refl
+
+-- options before, between and after the values
+all_log_row : row (codes "log" ∷ codes "--replicas=+03" ∷ codes "make" ∷ codes "--of=04" ∷ codes "a" ∷ codes "--log=nats://127.0.0.1:04222" ∷ codes "--" ∷ codes "-b" ∷ [])
+    ≡ log (record made_log { zone = codes "-b" })
+unfolding chars node_port
+all_log_row = refl
+
+-- a log is made with a number of replicas, and checked with none
+log_make_alone_row : row (log_words (codes "make") (codes "--of=4" ∷ [])) ≡ usage
+unfolding chars node_port
+log_make_alone_row = refl
+
+log_check_replicas_row : row (log_words (codes "check") (codes "--of=4" ∷ codes "--replicas=3" ∷ [])) ≡ usage
+unfolding chars node_port
+log_check_replicas_row = refl
+
+-- there is no other action
+log_move_row : row (log_words (codes "move") (codes "--of=4" ∷ [])) ≡ usage
+unfolding chars node_port
+log_move_row = refl
+
+log_makes_row : row (log_words (codes "makes") (codes "--of=4" ∷ codes "--replicas=3" ∷ [])) ≡ usage
+unfolding chars node_port
+log_makes_row = refl
+
+log_capital_row : row (log_words (codes "Make") (codes "--of=4" ∷ codes "--replicas=3" ∷ [])) ≡ usage
+unfolding chars node_port
+log_capital_row = refl
+
+log_no_action_row : row (codes "log" ∷ codes "a" ∷ codes "b" ∷ codes "--log=nats://127.0.0.1:4222" ∷ codes "--of=4" ∷ []) ≡ usage
+unfolding chars
+log_no_action_row = refl
+
+-- the action is the first of the values
+log_action_last_row : row (codes "log" ∷ codes "a" ∷ codes "b" ∷ codes "check" ∷ codes "--log=nats://127.0.0.1:4222" ∷ codes "--of=4" ∷ []) ≡ usage
+unfolding chars node_port
+log_action_last_row = refl
+
+-- 1 to 5 replicas
+log_replicas_0_row : row (log_words (codes "make") (codes "--of=4" ∷ codes "--replicas=0" ∷ [])) ≡ usage
+unfolding chars
+log_replicas_0_row = refl
+
+log_replicas_1_row : row (log_words (codes "make") (codes "--of=4" ∷ codes "--replicas=1" ∷ [])) ≡ log (record made_log { action = Some (actions.Make 1) })
+unfolding chars node_port
+log_replicas_1_row = refl
+
+log_replicas_5_row : row (log_words (codes "make") (codes "--of=4" ∷ codes "--replicas=5" ∷ [])) ≡ log (record made_log { action = Some (actions.Make 5) })
+unfolding chars node_port
+log_replicas_5_row = refl
+
+log_replicas_6_row : row (log_words (codes "make") (codes "--of=4" ∷ codes "--replicas=6" ∷ [])) ≡ usage
+unfolding chars
+log_replicas_6_row = refl
+
+-- 1 to 16 partitions
+log_of_0_row : row (log_words (codes "check") (codes "--of=0" ∷ [])) ≡ usage
+unfolding chars
+log_of_0_row = refl
+
+log_of_1_row : row (log_words (codes "check") (codes "--of=1" ∷ [])) ≡ log (record checked_log { of = 1 })
+unfolding chars node_port
+log_of_1_row = refl
+
+log_of_16_row : row (log_words (codes "check") (codes "--of=16" ∷ [])) ≡ log (record checked_log { of = 16 })
+unfolding chars node_port
+log_of_16_row = refl
+
+log_of_17_row : row (log_words (codes "check") (codes "--of=17" ∷ [])) ≡ usage
+unfolding chars
+log_of_17_row = refl
+
+-- the options are needed, and given once
+log_no_of_row : row (log_words (codes "check") []) ≡ usage
+unfolding chars
+log_no_of_row = refl
+
+log_no_log_row : row (codes "log" ∷ codes "check" ∷ codes "a" ∷ codes "b" ∷ codes "--of=4" ∷ []) ≡ usage
+unfolding chars
+log_no_log_row = refl
+
+log_of_twice_row : row (log_words (codes "check") (codes "--of=4" ∷ codes "--of=4" ∷ [])) ≡ usage
+unfolding chars
+log_of_twice_row = refl
+
+log_replicas_twice_row : row (log_words (codes "make") (codes "--of=4" ∷ codes "--replicas=3" ∷ codes "--replicas=3" ∷ [])) ≡ usage
+unfolding chars
+log_replicas_twice_row = refl
+
+-- the URL is that of a node
+log_url_row : row (codes "log" ∷ codes "check" ∷ codes "a" ∷ codes "b" ∷ codes "--log=4222" ∷ codes "--of=4" ∷ []) ≡ usage
+unfolding chars node_port
+log_url_row = refl
+
+-- no ledger and no partition is named
+log_ledger_row : row (log_words (codes "check") (codes "--of=4" ∷ codes "--ledger=l" ∷ [])) ≡ usage
+unfolding chars
+log_ledger_row = refl
+
+log_partition_row : row (log_words (codes "check") (codes "--of=4" ∷ codes "--partition=2" ∷ [])) ≡ usage
+unfolding chars
+log_partition_row = refl
+
+-- help may be called for after a word that is no action
+log_help_row : row (codes "log" ∷ codes "move" ∷ codes "-h" ∷ []) ≡ help_asked
+unfolding chars
+log_help_row = refl
+
+-- no other program has replicas
+replicas_of_follow_row : row (partition_words (codes "--log=nats://127.0.0.1:4222" ∷ codes "--replicas=3" ∷ [])) ≡ usage
+unfolding chars
+replicas_of_follow_row = refl
 
 check_help_row : row (codes "check" ∷ codes "-h" ∷ []) ≡ help_asked
 unfolding chars

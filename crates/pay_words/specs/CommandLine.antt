@@ -14,12 +14,13 @@ use Rattle.clap.specs.declared.parser.matches.ArgMatches.{ArgMatches}
 use Rattle.clap.specs.declared.parser.matches.Found.{Found}
 use Rattle.pay_words.specs.declared.words.WordsFault.{WordsFault}
 use Rattle.pay_words.specs.declared.words.WordsFault.TheVariants.{Help, Version, Usage, Memory}
-use Rattle.pay_words.specs.declared.limits.TheConstants.{MOST_ACCOUNT, MOST_PORT, MOST_SERVED_LANES, MOST_SHARDS, MOST_SESSIONS, MOST_AHEAD, LAST_PARTITION, MOST_PARTITIONS}
+use Rattle.pay_words.specs.declared.limits.TheConstants.{MOST_ACCOUNT, MOST_PORT, MOST_SERVED_LANES, MOST_SHARDS, MOST_SESSIONS, MOST_AHEAD, LAST_PARTITION, MOST_PARTITIONS, MOST_REPLICAS}
 use Rattle.pay_words.specs.Asked.{version_line}
 use Rattle.pay_words.specs.Audit.{Audit}
 use Rattle.pay_words.specs.Check.{Check, CheckTexts, check_of_texts}
 use Rattle.pay_words.specs.Explain.{Explain, ExplainTexts, explain_of_texts}
 use Rattle.pay_words.specs.Follow.{AreFollowNumbers, Follow, FollowTexts, follow_of_texts}
+use Rattle.pay_words.specs.Log.{AreLogNumbers, Log, LogTexts, log_of_texts}
 use Rattle.pay_words.specs.OneWord.{is_account}
 use Rattle.pay_words.specs.Page.{ArePorts, Page, PageTexts, page_of_texts}
 use Rattle.pay_words.specs.Run.{Run}
@@ -139,12 +140,17 @@ abbrev pub follow_app : App
 follow_app = with_rule (with_rule (with_rule (with_rule (with_fares_and_zone (new_app (codes "follow"))) (required_text (codes "log")))
     (required_option (codes "partition") 0 LAST_PARTITION)) (required_option (codes "of") 1 MOST_PARTITIONS)) (required_text (codes "ledger"))
 
+-- `log make FARES ZONE --log URL --of N --replicas R`, and `log check FARES ZONE --log URL --of N`
+abbrev pub log_app : App
+log_app = with_rule (with_rule (with_rule (with_rule (with_rule (with_rule (new_app (codes "log")) (required_word (codes "ACTION"))) (required_word (codes "FARES")))
+    (required_word (codes "ZONE"))) (required_text (codes "log"))) (required_option (codes "of") 1 MOST_PARTITIONS)) (optional_number (codes "replicas") 1 MOST_REPLICAS)
+
 -- the program, which has a version, and wants one of its programs named
 abbrev pub farebox_app : App
-farebox_app = with_subcommand (with_subcommand (with_subcommand (with_subcommand (with_subcommand (with_subcommand (with_subcommand (with_subcommand (with_subcommand (with_subcommand
+farebox_app = with_subcommand (with_subcommand (with_subcommand (with_subcommand (with_subcommand (with_subcommand (with_subcommand (with_subcommand (with_subcommand (with_subcommand (with_subcommand
     (on_top (λ top. record top { has_version = true; subcommand_required = true })
     (new_app (codes "farebox")))
-    run_app.top) check_app.top) statement_app.top) explain_app.top) page_app.top) replay_app.top) serve_app.top) audit_app.top) rebuild_app.top) follow_app.top
+    run_app.top) check_app.top) statement_app.top) explain_app.top) page_app.top) replay_app.top) serve_app.top) audit_app.top) rebuild_app.top) follow_app.top) log_app.top
 
 -- ---- the matches
 
@@ -324,6 +330,23 @@ abbrev pub HasFollowTexts : Found → FollowTexts → Type 0
 HasFollowTexts f t = (first_value f (codes "FARES") ≡ Some t.fares) × (first_value f (codes "ZONE") ≡ Some t.zone)
     × (first_value f (codes "log") ≡ Some t.log) × (one_text f (codes "partition") ≡ Some t.partition)
     × (one_text f (codes "of") ≡ Some t.of) × (first_value f (codes "ledger") ≡ Some t.ledger)
+
+-- these rows have the words that `log` is given
+abbrev pub HaveLogTexts : List Row → LogTexts → Type 0
+HaveLogTexts rows t = (first_of (codes "ACTION") rows ≡ Some t.action) × (first_of (codes "FARES") rows ≡ Some t.fares)
+    × (first_of (codes "ZONE") rows ≡ Some t.zone) × (first_of (codes "log") rows ≡ Some t.log)
+    × (one_of (codes "of") rows ≡ Some t.of) × (one_of (codes "replicas") rows ≡ t.replicas)
+
+-- the matches are those of `log` with these values, and numbers in their ranges
+abbrev pub GivesLog : ArgMatches → Log → Type 0
+GivesLog m l = (t : LogTexts) × (rows : List Row) × (subcommand_rows_of m ≡ Some (codes "log", rows))
+    × HaveLogTexts rows t × AreLogNumbers t × (log_of_texts t ≡ l)
+
+-- the matches have the words that `log` is given
+abbrev pub HasLogTexts : Found → LogTexts → Type 0
+HasLogTexts f t = (first_value f (codes "ACTION") ≡ Some t.action) × (first_value f (codes "FARES") ≡ Some t.fares)
+    × (first_value f (codes "ZONE") ≡ Some t.zone) × (first_value f (codes "log") ≡ Some t.log)
+    × (one_text f (codes "of") ≡ Some t.of) × (one_text f (codes "replicas") ≡ t.replicas)
 
 -- help was asked for, or memory was refused
 abbrev pub IsHelpOrMemory : WordsFault → Type 0

@@ -5,6 +5,7 @@ pub mod Check
 pub mod Explain
 pub mod Follow
 pub mod Greeting
+pub mod Log
 pub mod Node
 pub mod OneWord
 pub mod Options

@@ -49,12 +49,20 @@ pub const FOLLOW: &str = "\
 Answer the lines of a partition of a replicated log, and publish each reply under its
 place";
 
+/// What `log` does.
+pub const LOG: &str = "Make the streams of a replicated log, or say how they are";
+
 /// What the word FARES is.
 pub const FARES: &str = "The fare file, a TOML document";
 
 /// What the word ZONE is.
 pub const ZONE: &str = "The time zone, a POSIX rule text such as GMT0BST,M3.5.0/1,M10.5.0
 (a name such as Europe/London is none)";
+
+/// What the word ACTION is.
+pub const ACTION: &str = "\
+What is done with the streams of the log: make, to make them, or check, to
+say how they are";
 
 /// What the word ACCOUNT is.
 pub const ACCOUNT: &str = "The account, a number from 1 to 4294967295";
@@ -226,14 +234,20 @@ pub const PARTITION: &str = "The partition whose lines are answered, from 0 to N
 /// What the option `--of` is.
 pub const OF: &str = "How many partitions the log has, from 1 to 16";
 
+/// What the option `--replicas` is.
+pub const REPLICAS: &str = "\
+With make: how many nodes have a copy of each stream, from 1 to 5. It is
+not taken with check";
+
 /// What stands below the program's own help.
 pub const BELOW_PROGRAM: &str = "\
 Words of run (FARES ZONE), of check (FARES), of statement (FARES ZONE ACCOUNT DAY), of explain
 (FARES ZONE ACCOUNT DAY --journal PATH), of page (FARES ZONE --journal PATH --port P), of replay
 (FARES ZONE FILE..), of serve (FARES ZONE --port P --lanes L --shards N --sessions K --close DAY, or
 FARES ZONE --port P --lanes L --shards N --control C --journal FOLDER --ledger FILE), of audit
-(FARES ZONE --journal PATH), of rebuild (FARES LEDGER) and of follow (FARES ZONE --log URL
---partition P --of N --ledger FILE), with options in any order:
+(FARES ZONE --journal PATH), of rebuild (FARES LEDGER), of follow (FARES ZONE --log URL
+--partition P --of N --ledger FILE) and of log (make FARES ZONE --log URL --of N --replicas R, or
+check FARES ZONE --log URL --of N), with options in any order:
   FARES    the fare file, a TOML document, which may hold editions, fares that hold from a day on
   ZONE     the time zone, a POSIX rule text (a name such as Europe/London is none)
   ACCOUNT  the account, a number from 1 to 4294967295
@@ -241,14 +255,15 @@ FARES ZONE --port P --lanes L --shards N --control C --journal FOLDER --ledger F
   P        the port of the first lane, each further lane has the next port; with C, of all lanes;
            of page, the port that answers browsers; of follow, a partition, from 0 to N - 1
   L        how many lanes there are, from 1 to 15; with C, from 1 to 14
-  N        how many shards the accounts are spread over, from 1 to 16; of follow, how many
-           partitions the log has, from 1 to 16
+  N        how many shards the accounts are spread over, from 1 to 16; of follow and of log,
+           how many partitions the log has, from 1 to 16
   K        how many connections each lane serves, from 1 to 1000; then the service ends
   C        the port for staff, who close days and end the service; of page, the one that is asked
   FILE     a journal, which run or serve wrote
   PATH     a journal, or a folder of journals, which is only read
   LEDGER   the SQLite file that days were closed into
   URL      a node of a replicated log, nats://127.0.0.1:PORT
+  R        how many nodes have a copy of each stream of the log, from 1 to 5
 
 Further options: --journal FILE and --ledger FILE of run, and --sync with --journal; --lint and
 --against OLD of check, where OLD is another fare file, and --after DAY with --against; --journal
@@ -449,3 +464,16 @@ Statuses:
   2  the words were refused
 
 The lines and replies, the fare file and the faults are described in docs/FORMATS.md.";
+
+/// What stands below the help of `log`.
+pub const BELOW_LOG: &str = "\
+make makes the streams of a log of N partitions, with R copies of each, and check says how they are.
+--replicas has to be given with make, and is not taken with check. URL is nats://127.0.0.1:PORT, the
+text of no other host. Standard input is not read.
+
+Statuses:
+  0  all right
+  1  a fault, which one line on standard error names
+  2  the words were refused
+
+The fare file and the faults are described in docs/FORMATS.md.";

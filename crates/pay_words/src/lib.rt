@@ -7,6 +7,7 @@ mod node;
 mod words;
 
 pub use words::{
-    AuditWords, CheckWords, ExplainWords, FollowWords, Job, PageWords, RebuildWords, ReplayWords,
-    RunWords, ServeWords, StatementWords, StayWords, WordsFault, read_words,
+    AuditWords, CheckWords, ExplainWords, FollowWords, Job, LogAction, LogWords, PageWords,
+    RebuildWords, ReplayWords, RunWords, ServeWords, StatementWords, StayWords, WordsFault,
+    read_words,
 };

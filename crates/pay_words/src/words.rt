@@ -1,43 +1,44 @@
 //! The words that the program is started with, and the job that they ask for.
 ghost use Rattle.std.specs.Prelude.{◌≡◌, ℕ, ◌<◌, ◌≤◌, Bool, true, false, codes, drop, List};
-ghost use Rattle.std.specs.Prelude.{IfOk, IfErr, IsSomeAnd, MatchOption, None, Some, is_some, option_copied, option_map};
+ghost use Rattle.std.specs.Prelude.{IfOk, IfErr, IfSome, IsSomeAnd, MatchOption, None, Option, Some, is_some, option_copied, option_map};
 ghost use Rattle.std.specs.List.{list_all};
 ghost use Rattle.clap.specs.Walk.{texts};
 ghost use Rattle.clap.specs.Words.{app_of, first_value, found_of, kind_of, one_text};
 ghost use Rattle.clap.specs.declared.builder.command.Command.TheViews.{out-Command as fields_of};
-ghost use Rattle.pay_words.specs.CommandLine.{GivesAudit, GivesCheck, GivesExplain, GivesFollow, GivesPage, GivesRebuild, GivesReplay, GivesRun, GivesServe, GivesStatement};
-ghost use Rattle.pay_words.specs.CommandLine.{HasAudit, HasCheckTexts, HasExplainTexts, HasFaresAndLedger, HasFaresAndZone, HasFiles, HasFollowTexts, HasPageTexts, HasRun, HasServeTexts, HasStatementTexts};
+ghost use Rattle.pay_words.specs.CommandLine.{GivesAudit, GivesCheck, GivesExplain, GivesFollow, GivesLog, GivesPage, GivesRebuild, GivesReplay, GivesRun, GivesServe, GivesStatement};
+ghost use Rattle.pay_words.specs.CommandLine.{HasAudit, HasCheckTexts, HasExplainTexts, HasFaresAndLedger, HasFaresAndZone, HasFiles, HasFollowTexts, HasLogTexts, HasPageTexts, HasRun, HasServeTexts, HasStatementTexts};
 ghost use Rattle.pay_words.specs.CommandLine.{IsFaultOfKind, IsHelpOrMemory, IsVersionOrMemory, flag_text};
-ghost use Rattle.pay_words.specs.CommandLine.{audit_app, check_app, explain_app, farebox_app, follow_app, page_app, rebuild_app, replay_app, run_app, serve_app, statement_app};
+ghost use Rattle.pay_words.specs.CommandLine.{audit_app, check_app, explain_app, farebox_app, follow_app, log_app, page_app, rebuild_app, replay_app, run_app, serve_app, statement_app};
 ghost use Rattle.pay_words.specs.CommandLine.{flag_option, optional_number, required_number, required_option, required_text, required_word};
 ghost use Rattle.pay_words.specs.CommandLine.{required_words, text_option, with_account_and_day, with_against, with_control, with_end, with_fares_and_zone, with_ledger, with_numbers};
 ghost use Rattle.clap.specs.Words.{App, with_rule, with_subcommand};
 ghost use Rattle.clap.specs.ValueTests.{is_unsigned_in};
 ghost use Rattle.clap.specs.Walk.{rule_of};
 ghost use Rattle.pay_words.specs.Asked.{IsFaultOf, Text, asked, job_asked, AreJobWords, IsJob, IsJobInRange};
-ghost use Rattle.pay_words.specs.Asked.{RunIsTaken, CheckIsTaken, StatementIsTaken, ExplainIsTaken, PageIsTaken, ReplayIsTaken, ServeIsTaken, AuditIsTaken, RebuildIsTaken, FollowIsTaken};
+ghost use Rattle.pay_words.specs.Asked.{RunIsTaken, CheckIsTaken, StatementIsTaken, ExplainIsTaken, PageIsTaken, ReplayIsTaken, ServeIsTaken, AuditIsTaken, RebuildIsTaken, FollowIsTaken, LogIsTaken};
 ghost use Rattle.pay_dates.specs.Words.{day_of_text};
-ghost use Rattle.pay_words.specs.Asked.{IsAnswer, IsJobOrMemory, allowed, audit_job, check_job, explain_job, follow_job, page_job, run_job, served_job, service_values, statement_job};
-ghost use Rattle.pay_words.specs.OneWord.{is_account, is_port};
+ghost use Rattle.pay_words.specs.Asked.{IsAnswer, IsJobOrMemory, allowed, audit_job, check_job, explain_job, follow_job, log_job, page_job, run_job, served_job, service_values, statement_job};
+ghost use Rattle.pay_words.specs.OneWord.{is_account, is_port, is_replicas};
 ghost use Rattle.pay_words.specs.Audit.{Audit};
 ghost use Rattle.pay_words.specs.Check.{Check, CheckTexts, check_of_texts, has_after_day, has_against};
 ghost use Rattle.pay_words.specs.Explain.{Explain, ExplainTexts, explain_of_texts};
 ghost use Rattle.pay_words.specs.Follow.{AreFollowNumbers, Follow, FollowTexts, follow_of_texts, has_partition, may_follow};
 ghost use Rattle.pay_words.specs.Greeting.{begins_or_ends_with_space, is_greeting, is_printable, is_word_of_staff, may_greet};
+ghost use Rattle.pay_words.specs.Log.{AreLogNumbers, Log, LogTexts, action_of, checking, log_of_texts, making, may_log};
 ghost use Rattle.pay_words.specs.Node.{node_port};
 ghost use Rattle.pay_words.specs.Page.{ArePorts, Page, PageTexts, has_control, has_own_port, may_show, page_of_texts};
 ghost use Rattle.pay_words.specs.Run.{Run, has_journal};
 ghost use Rattle.pay_words.specs.Serve.{AreInRange, Serve, ServeTexts, closed_day, has_more, has_no_end, has_ports, leaves_room, numbers_of};
 ghost use Rattle.pay_words.specs.Statement.{Statement, StatementTexts, has_lines, may_state, shows_postings, statement_of_texts};
 ghost use Rattle.pay_words.specs.Asked.{check as check_asked, run as run_asked, without_dashes};
-ghost use Rattle.pay_words.specs.Asked.{audit as audit_asked, explain as explain_asked, follow as follow_asked, page as page_asked, rebuild as rebuild_asked};
+ghost use Rattle.pay_words.specs.Asked.{audit as audit_asked, explain as explain_asked, follow as follow_asked, log as log_asked, page as page_asked, rebuild as rebuild_asked};
 ghost use Rattle.pay_words.specs.Asked.{replay as replay_asked, serve as serve_asked, statement as statement_asked, number_of};
 ghost use Rattle.pay_words.specs.declared.words.WordsFault.TheVariants.{Memory};
 
 use crate::help;
 use crate::limits::{
     LAST_PARTITION, MOST_ACCOUNT, MOST_AHEAD, MOST_GREETING_BYTES, MOST_PARTITIONS, MOST_PORT,
-    MOST_SERVED_LANES, MOST_SESSIONS, MOST_SHARDS, MOST_STAYING_LANES,
+    MOST_REPLICAS, MOST_SERVED_LANES, MOST_SESSIONS, MOST_SHARDS, MOST_STAYING_LANES,
 };
 use crate::node::node_port;
 use clap::builder::ValueParser;
@@ -83,6 +84,9 @@ pub enum Job<'a> {
     /// `follow FARES ZONE --log URL --partition P --of N --ledger FILE`: a replica, which answers the lines of a
     /// partition of a replicated log.
     Follow(FollowWords<'a>),
+    /// `log make FARES ZONE --log URL --of N --replicas R`, `log check FARES ZONE --log URL --of N`: makes the streams of
+    /// a replicated log, or says how they are.
+    Log(LogWords<'a>),
 }
 
 /// The values of `run FARES ZONE [--journal FILE [--sync]] [--ledger FILE] [--early]`.
@@ -306,6 +310,33 @@ pub struct FollowWords<'a> {
     pub ledger: &'a str,
 }
 
+/// What is done with the streams of a replicated log.
+#[derive(Clone, Copy)]
+pub enum LogAction {
+    /// `make`: they are made.
+    Make {
+        /// How many nodes have a copy of each: 1 to 5.
+        replicas: u8,
+    },
+    /// `check`: it is said how they are.
+    Check,
+}
+
+/// The values of `log make FARES ZONE --log URL --of N --replicas R` and of `log check FARES ZONE --log URL --of N`.
+#[derive(Clone, Copy)]
+pub struct LogWords<'a> {
+    /// What is done.
+    pub action: LogAction,
+    /// The path of the fare file.
+    pub fares: &'a str,
+    /// The text of the time zone, a POSIX rule.
+    pub zone: &'a str,
+    /// The port of 127.0.0.1 of a node of the log: 1 to 65,535.
+    pub port: u16,
+    /// How many partitions the log has: 1 to 16.
+    pub of: u8,
+}
+
 /// Why the words give no job.
 #[derive(Debug, Drop, Error)]
 pub enum WordsFault {
@@ -347,8 +378,9 @@ impl From<AllocError> for WordsFault {
 /// no space at either end, and no line by which staff ask something of it. Without `--control` it has both `--sessions`
 /// and `--close`, and no `--ahead`, `--refused` or `--greeting`.
 ///
-/// Of `follow`, `--log` names a port of 127.0.0.1, as `nats://127.0.0.1:4222`, and `--partition` is below `--of`. Each
-/// of its options is needed.
+/// `--log` names a port of 127.0.0.1, as `nats://127.0.0.1:4222`. Of `follow`, whose options are all needed,
+/// `--partition` is below `--of`. Of `log`, whose first word is `make` or `check`, `--replicas` is needed with `make`, and
+/// not taken with `check`.
 pub fn read_words<'a>(alloc: Global, words: &'a [&'a str]) -> Result<Job<'a>, WordsFault>
     ensures job { IfOk result (λ job. asked (texts words.entry.now) ≡ job_asked job) }
     ensures refused { IfErr result (IsFaultOf (asked (texts words.entry.now))) }
@@ -396,6 +428,10 @@ pub fn read_words<'a>(alloc: Global, words: &'a [&'a str]) -> Result<Job<'a>, Wo
     // Two words with no hyphen before them, the URL of a node, a partition, how many there are, and a ledger, in any
     // order, are the values of `follow`, where it is one of the partitions.
     ensures follow { FollowIsTaken (texts words.entry.now) result }
+
+    // An action, two words with no hyphen before them, the URL of a node, how many partitions there are, and a number
+    // of replicas where the log is made, in any order, are the values of `log`.
+    ensures log { LogIsTaken (texts words.entry.now) result }
 {
     pay_dates::laws::named_days();
     let command = farebox_command(alloc)?;
@@ -422,7 +458,8 @@ fn farebox_command<'a>(alloc: Global) -> Result<Command<'a>, AllocError>
     let seven = with_program(six, serve_command(alloc));
     let eight = with_program(seven, audit_command(alloc));
     let nine = with_program(eight, rebuild_command(alloc));
-    with_program(nine, follow_command(alloc))
+    let ten = with_program(nine, follow_command(alloc));
+    with_program(ten, log_command(alloc))
 }
 
 /// A command with a program more, if both could be made.
@@ -667,8 +704,40 @@ fn follow_command<'a>(alloc: Global) -> Result<Command<'a>, AllocError>
     )?;
     with_two(
         placed,
-        number_option(alloc, "of", "N", help::OF, 1, MOST_PARTITIONS),
+        partitions_option(alloc),
         required_text(alloc, "ledger", "FILE", help::LEDGER),
+    )
+}
+
+/// The option `--of`, which has to be there.
+fn partitions_option<'a>(alloc: Global) -> Arg<'a>
+    ensures rule { rule_of result ≡ required_option (codes "of") 1 MOST_PARTITIONS }
+    ensures local { result.global ≡ false }
+{
+    number_option(alloc, "of", "N", help::OF, 1, MOST_PARTITIONS)
+}
+
+fn log_command<'a>(alloc: Global) -> Result<Command<'a>, AllocError>
+    ensures app { IfOk result (λ command. app_of command ≡ log_app) }
+    ensures local { IfOk result (λ command. (fields_of command).has_globals ≡ false) }
+{
+    let command = Command::new(alloc, "log")
+        .about(help::LOG)
+        .after_help(help::BELOW_LOG);
+    let named = with_two(
+        command,
+        text_word(alloc, "ACTION", help::ACTION),
+        text_word(alloc, "FARES", help::FARES),
+    )?;
+    let placed = with_two(
+        named,
+        text_word(alloc, "ZONE", help::ZONE),
+        required_text(alloc, "log", "URL", help::LOG_URL),
+    )?;
+    with_two(
+        placed,
+        partitions_option(alloc),
+        optional_number(alloc, "replicas", "R", help::REPLICAS, 1, MOST_REPLICAS),
     )
 }
 
@@ -805,6 +874,7 @@ fn job_of<'a>(alloc: Global, matches: &ArgMatches<'a>) -> Result<Job<'a>, WordsF
     ensures audit { (a : Audit) → GivesAudit matches.now a → IsJob (audit_asked a) result }
     ensures rebuild { (fares ledger : Text) → GivesRebuild matches.now fares ledger → IsJob (rebuild_asked fares ledger) result }
     ensures follow { (f : Follow) → GivesFollow matches.now f → IsAnswer (allowed (follow_asked f)) result }
+    ensures log { (l : Log) → GivesLog matches.now l → IsAnswer (allowed (log_asked l)) result }
 {
     match matches.subcommand() {
         Some(("run", run)) => run_job(run),
@@ -817,6 +887,7 @@ fn job_of<'a>(alloc: Global, matches: &ArgMatches<'a>) -> Result<Job<'a>, WordsF
         Some(("audit", audit)) => audit_job(audit),
         Some(("rebuild", rebuild)) => rebuild_job(rebuild),
         Some(("follow", follow)) => follow_job(follow),
+        Some(("log", log)) => log_job(log),
         _ => Err(WordsFault::Usage),
     }
 }
@@ -1340,6 +1411,69 @@ fn has_partition(words: &FollowWords<'_>) -> bool
     words.partition < words.of
 }
 
+fn log_job<'a>(log: &ArgMatches<'a>) -> Result<Job<'a>, WordsFault>
+    ensures { (t : LogTexts) → HasLogTexts (found_of log.now) t → AreLogNumbers t
+        → IsAnswer (allowed (log_asked (log_of_texts t))) result }
+{
+    match log_words(log) {
+        Some(words) => Ok(Job::Log(words)),
+        None => Err(WordsFault::Usage),
+    }
+}
+
+/// The values of `log`, where its word names an action that goes with its option, and its URL has a port.
+fn log_words<'a>(log: &ArgMatches<'a>) -> Option<LogWords<'a>>
+    ensures { (t : LogTexts) → HasLogTexts (found_of log.now) t → AreLogNumbers t
+        → MatchOption result (may_log (log_of_texts t) ≡ false) (λ words. log_job words ≡ log_of_texts t) }
+{
+    Some(LogWords {
+        action: action_of(log.get_str("ACTION")?, replicas_of(log))?,
+        fares: log.get_str("FARES")?,
+        zone: log.get_str("ZONE")?,
+        port: node_port(log.get_str("log")?)?,
+        of: count_of(log, "of")?,
+    })
+}
+
+/// The action of a word, with so many replicas.
+fn action_of(word: &str, replicas: Option<u8>) -> Option<LogAction>
+    ensures { result ≡ action_of word.now replicas }
+{
+    match word {
+        "make" => making(replicas),
+        "check" => checking(replicas),
+        _ => None,
+    }
+}
+
+/// What makes a log needs a number of replicas.
+fn making(replicas: Option<u8>) -> Option<LogAction>
+    ensures { result ≡ making replicas }
+{
+    match replicas {
+        Some(replicas) => Some(LogAction::Make { replicas }),
+        None => None,
+    }
+}
+
+/// What says how a log is takes none.
+fn checking(replicas: Option<u8>) -> Option<LogAction>
+    ensures { result ≡ checking replicas }
+{
+    match replicas {
+        Some(_) => None,
+        None => Some(LogAction::Check),
+    }
+}
+
+/// The number of replicas, if it was given.
+fn replicas_of(log: &ArgMatches<'_>) -> Option<u8>
+    ensures { (given : Option Text) → one_text (found_of log.now) (codes "replicas") ≡ given
+        → IfSome given (λ word. is_replicas word ≡ true) → result ≡ option_map number_of given }
+{
+    count_of(log, "replicas")
+}
+
 /// The port of this name, of the numbers that the matches have.
 fn port_of(matches: &ArgMatches<'_>, name: &str) -> Option<u16>
     ensures none { one_text (found_of matches.now) name.now ≡ None → result ≡ None }
@@ -1351,7 +1485,8 @@ fn port_of(matches: &ArgMatches<'_>, name: &str) -> Option<u16>
 
 /// The number of this name, of those that the matches have, where it is below 256.
 fn count_of(matches: &ArgMatches<'_>, name: &str) -> Option<u8>
-    ensures { (word : Text) (least most : ℕ) → one_text (found_of matches.now) name.now ≡ Some word
+    ensures none { one_text (found_of matches.now) name.now ≡ None → result ≡ None }
+    ensures value { (word : Text) (least most : ℕ) → one_text (found_of matches.now) name.now ≡ Some word
         → is_unsigned_in least most word ≡ true → most < 256
         → result ≡ Some (number_of word) }
 {

@@ -1,7 +1,7 @@
 use Rattle.std.proofs.Common.{◌≡◌, true, codes, rules}
 use Rattle.clap.specs.Words.{app_of, new_app, with_subcommand}
 use Rattle.clap.specs.Simple.{App, on_top}
-use Rattle.pay_words.specs.CommandLine.{audit_app, check_app, explain_app, follow_app, page_app, rebuild_app, replay_app, run_app, serve_app, statement_app}
+use Rattle.pay_words.specs.CommandLine.{audit_app, check_app, explain_app, follow_app, log_app, page_app, rebuild_app, replay_app, run_app, serve_app, statement_app}
 use Rattle.pay_words.proofs.words.farebox_command.Goals as goal
 
 pub returns : goal.returns
@@ -17,7 +17,9 @@ returns c =
     let seven = with_subcommand six serve_app.top in
     let eight = with_subcommand seven audit_app.top in
     let nine = with_subcommand eight rebuild_app.top in
-    c.with_program.ensures nine follow_app
+    let ten = with_subcommand nine follow_app.top in
+    c.with_program.ensures ten log_app
+    (c.with_program-ten.ensures nine follow_app
     (c.with_program-nine.ensures eight rebuild_app
     (c.with_program-eight.ensures seven audit_app
     (c.with_program-seven.ensures six serve_app
@@ -28,4 +30,5 @@ returns c =
     (c.with_program-two.ensures one check_app
     (c.with_program-one.ensures top run_app made c.run_command.ensures.app)
     c.check_command.ensures.app) c.statement_command.ensures.app) c.explain_command.ensures.app) c.page_command.ensures.app) c.replay_command.ensures.app) c.serve_command.ensures.app) c.audit_command.ensures.app) c.rebuild_command.ensures.app)
-    c.follow_command.ensures.app
+    c.follow_command.ensures.app)
+    c.log_command.ensures.app

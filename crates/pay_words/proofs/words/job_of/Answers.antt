@@ -1,5 +1,5 @@
 use Rattle.clap.specs.Words.{found_of}
-use Rattle.pay_words.proofs.Results.{audit_values, check_texts, explain_texts, follow_texts, page_texts, rebuild_values, replay_values, run_values, serve_texts, statement_texts}
+use Rattle.pay_words.proofs.Results.{audit_values, check_texts, explain_texts, follow_texts, log_texts, page_texts, rebuild_values, replay_values, run_values, serve_texts, statement_texts}
 use Rattle.pay_words.proofs.words.job_of.Goals as goal
 
 pub returns-in-Some-run-default-clause-run : goal.returns-in-Some-run-default-clause-run
@@ -49,3 +49,8 @@ pub returns-in-Some-follow-default-clause-follow : goal.returns-in-Some-follow-d
 returns-in-Some-follow-default-clause-follow c = λ f gives.
     let found = found_of c.in-Some-follow-default.follow.now in
     rw (← gives.5) (c.follow_job.ensures gives.0 (follow_texts c.args.matches.now found f c.in-Some-follow-default.ensures.rows gives) gives.4)
+
+pub returns-in-Some-log-default-clause-log : goal.returns-in-Some-log-default-clause-log
+returns-in-Some-log-default-clause-log c = λ l gives.
+    let found = found_of c.in-Some-log-default.log.now in
+    rw (← gives.5) (c.log_job.ensures gives.0 (log_texts c.args.matches.now found l c.in-Some-log-default.ensures.rows gives) gives.4)

@@ -3,7 +3,7 @@ use Rattle.clap.specs.Words.{App, HasMatchesOf, HasKind, Text, app_of, fault_of,
 use Rattle.clap.specs.Walk.{texts}
 use Rattle.pay_words.specs.Asked.{asked, words_ask}
 use Rattle.pay_words.specs.CommandLine.{farebox_app}
-use Rattle.pay_words.proofs.Results.{job_read, matched, refused_as, result_audit, result_check, result_explain, result_follow, result_in_range, result_job, result_page, result_rebuild, result_refused, result_replay, result_run, result_serve, result_statement, result_words}
+use Rattle.pay_words.proofs.Results.{job_read, matched, refused_as, result_audit, result_check, result_explain, result_follow, result_in_range, result_job, result_log, result_page, result_rebuild, result_refused, result_replay, result_run, result_serve, result_statement, result_words}
 use Rattle.pay_words.proofs.words.read_words.Goals as goal
 
 pub returns-in-Ok-clause-job : goal.returns-in-Ok-clause-job
@@ -23,6 +23,7 @@ returns-in-Ok-clause-job c =
       of_audit = c.job_of.ensures.audit;
       of_rebuild = c.job_of.ensures.rebuild;
       of_follow = c.job_of.ensures.follow;
+      of_log = c.job_of.ensures.log;
     }))
 
 pub returns-in-Ok-clause-refused : goal.returns-in-Ok-clause-refused
@@ -42,6 +43,7 @@ returns-in-Ok-clause-refused c =
       of_audit = c.job_of.ensures.audit;
       of_rebuild = c.job_of.ensures.rebuild;
       of_follow = c.job_of.ensures.follow;
+      of_log = c.job_of.ensures.log;
     }))
 
 pub returns-in-Ok-clause-in_range : goal.returns-in-Ok-clause-in_range
@@ -116,3 +118,9 @@ returns-in-Ok-clause-follow c = result_follow c.job_of.result (texts c.args.word
 
 pub returns-in-Err-clause-follow : goal.returns-in-Err-clause-follow
 returns-in-Err-clause-follow c = result_follow (Err c.fault_of.result) (texts c.args.words.now) tt (returns-in-Err-clause-refused c)
+
+pub returns-in-Ok-clause-log : goal.returns-in-Ok-clause-log
+returns-in-Ok-clause-log c = result_log c.job_of.result (texts c.args.words.now) (returns-in-Ok-clause-job c) (returns-in-Ok-clause-refused c)
+
+pub returns-in-Err-clause-log : goal.returns-in-Err-clause-log
+returns-in-Err-clause-log c = result_log (Err c.fault_of.result) (texts c.args.words.now) tt (returns-in-Err-clause-refused c)
