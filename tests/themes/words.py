@@ -48,6 +48,9 @@ Commands:
              that differs and each week that is not settled
   rebuild    Print the lines of the taps and corrections that a ledger archives, as a journal
              has them
+  follow     Answer the lines of a partition of a replicated log, and publish each reply under its
+             place
+  log        Make the streams of a replicated log, or say how they are
   help       Print this message or the help of the given subcommand(s)
 
 Options:
@@ -58,20 +61,25 @@ Words of run (FARES ZONE), of check (FARES), of statement (FARES ZONE ACCOUNT DA
 (FARES ZONE ACCOUNT DAY --journal PATH), of page (FARES ZONE --journal PATH --port P), of replay
 (FARES ZONE FILE..), of serve (FARES ZONE --port P --lanes L --shards N --sessions K --close DAY, or
 FARES ZONE --port P --lanes L --shards N --control C --journal FOLDER --ledger FILE), of audit
-(FARES ZONE --journal PATH) and of rebuild (FARES LEDGER), with options in any order:
+(FARES ZONE --journal PATH), of rebuild (FARES LEDGER), of follow (FARES ZONE --log URL
+--partition P --of N --ledger FILE) and of log (make FARES ZONE --log URL --of N --replicas R, or
+check FARES ZONE --log URL --of N), with options in any order:
   FARES    the fare file, a TOML document, which may hold editions, fares that hold from a day on
   ZONE     the time zone, a POSIX rule text (a name such as Europe/London is none)
   ACCOUNT  the account, a number from 1 to 4294967295
   DAY      a service day: its date, such as 2024-01-08, or its number, counted from 1970-01-01
   P        the port of the first lane, each further lane has the next port; with C, of all lanes;
-           of page, the port that answers browsers
+           of page, the port that answers browsers; of follow, a partition, from 0 to N - 1
   L        how many lanes there are, from 1 to 15; with C, from 1 to 14
-  N        how many shards the accounts are spread over, from 1 to 16
+  N        how many shards the accounts are spread over, from 1 to 16; of follow and of log,
+           how many partitions the log has, from 1 to 16
   K        how many connections each lane serves, from 1 to 1000; then the service ends
   C        the port for staff, who close days and end the service; of page, the one that is asked
   FILE     a journal, which run or serve wrote
   PATH     a journal, or a folder of journals, which is only read
   LEDGER   the SQLite file that days were closed into
+  URL      a node of a replicated log, nats://127.0.0.1:PORT
+  R        how many nodes have a copy of each stream of the log, from 1 to 5
 
 Further options: --journal FILE and --ledger FILE of run, and --sync with --journal; --lint and
 --against OLD of check, where OLD is another fare file, and --after DAY with --against; --journal
@@ -367,6 +375,53 @@ corrections of the days that were closed into it.
 """ + STATUSES + b"""
 The lines, the journal, the ledger and the faults are described in docs/FORMATS.md.
 """
+FOLLOW_HELP = b"""\
+Answer the lines of a partition of a replicated log, and publish each reply under its
+place
+
+Usage: farebox follow --log <URL> --partition <P> --of <N> --ledger <FILE> <FARES> <ZONE>
+
+Arguments:
+  <FARES>  The fare file, a TOML document
+  <ZONE>   The time zone, a POSIX rule text such as GMT0BST,M3.5.0/1,M10.5.0
+           (a name such as Europe/London is none)
+
+Options:
+      --log <URL>      A node of the log: nats://127.0.0.1:PORT, whose port is from 1 to 65535
+      --partition <P>  The partition whose lines are answered, from 0 to N - 1
+      --of <N>         How many partitions the log has, from 1 to 16
+      --ledger <FILE>  The SQLite file that days are closed into. It is made if it is missing
+  -h, --help           Print help
+
+A replicated log has N partitions, from 0 to N - 1. A replica answers the lines of one of them: of
+the partition P. URL is nats://127.0.0.1:PORT, the text of no other host. Standard input is not
+read.
+""" + STATUSES + RUN_FORMATS
+LOG_HELP = b"""\
+Make the streams of a replicated log, or say how they are
+
+Usage: farebox log [OPTIONS] --log <URL> --of <N> <ACTION> <FARES> <ZONE>
+
+Arguments:
+  <ACTION>  What is done with the streams of the log: make, to make them, or check, to
+            say how they are
+  <FARES>   The fare file, a TOML document
+  <ZONE>    The time zone, a POSIX rule text such as GMT0BST,M3.5.0/1,M10.5.0
+            (a name such as Europe/London is none)
+
+Options:
+      --log <URL>     A node of the log: nats://127.0.0.1:PORT, whose port is from 1 to 65535
+      --of <N>        How many partitions the log has, from 1 to 16
+      --replicas <R>  With make: how many nodes have a copy of each stream, from 1 to 5. It is
+                      not taken with check
+  -h, --help          Print help
+
+make makes the streams of a log of N partitions, with R copies of each, and check says how they are.
+--replicas has to be given with make, and is not taken with check. URL is nats://127.0.0.1:PORT, the
+text of no other host. Standard input is not read.
+""" + STATUSES + b"""
+The fare file and the faults are described in docs/FORMATS.md.
+"""
 VERSION = b"farebox 0.1.0\n"
 
 # Words after options that ask for help or the version, and words that are refused.
@@ -427,6 +482,14 @@ class Help(Theme):
                 ),
             ),
             (REBUILD_HELP, (["rebuild", "--help"], ["help", "rebuild"], ["rebuild", MISSING, "-h"])),
+            (FOLLOW_HELP, (
+                ["follow", "--help"], ["follow", "-h"], ["help", "follow"], ["follow", MISSING, "no zone", "--help"],
+                ["follow", "--log=x", "-h"], ["follow", "--partition=4", "--of=4", "--help", "--of=17"],
+            )),
+            (LOG_HELP, (
+                ["log", "--help"], ["log", "-h"], ["help", "log"], ["log", "move", MISSING, "no zone", "-h"],
+                ["log", "make", "--log=x", "-h"], ["log", "check", "--replicas=5", "--help", "--replicas=6"],
+            )),
         )
         for text, each in asked:
             for given in each:
@@ -912,3 +975,149 @@ class Explained(Theme):
             self.check(
                 f"the account {account} and the day {day}", run([*NOT_ASKED[:3], account, day, *journal]), NO_FARES
             )
+
+
+# Words of replicas and of the log that they follow. The fare file is missing: it is read before a node is asked.
+NODE = "nats://127.0.0.1:4222"
+TO_FOLLOW = ["follow", MISSING, LONDON, "--log", NODE, "--partition", "2", "--of", "4", "--ledger", "a"]
+TO_MAKE = ["log", "make", MISSING, LONDON, "--log", NODE, "--of", "4", "--replicas", "3"]
+TO_LOOK = ["log", "check", MISSING, LONDON, "--log", NODE, "--of", "4"]
+REFUSED_BY_FOLLOW = (
+    *(TO_FOLLOW[:count] for count in range(1, len(TO_FOLLOW))), [*TO_FOLLOW, "more"], [*TO_FOLLOW, ""],
+    [*TO_FOLLOW, "--", "more"], ["follow", *TO_FOLLOW], ["--", *TO_FOLLOW], ["FOLLOW", *TO_FOLLOW[1:]],
+    ["follows", *TO_FOLLOW[1:]], [b"follow\xff", *TO_FOLLOW[1:]], [*TO_FOLLOW[:3], "--", *TO_FOLLOW[3:]],
+    ["follow", MISSING, "-UTC0", *TO_FOLLOW[3:]], ["follow", MISSING, b"UTC0\xff", *TO_FOLLOW[3:]],
+    # Each word is needed, and each option with its value, and given once.
+    *([*TO_FOLLOW[:at], *TO_FOLLOW[at + 1:]] for at in range(len(TO_FOLLOW))),
+    *([*TO_FOLLOW[:at], *TO_FOLLOW[at + 2:]] for at in range(3, len(TO_FOLLOW), 2)),
+    *([*TO_FOLLOW, *TO_FOLLOW[at:at + 2]] for at in range(3, len(TO_FOLLOW), 2)),
+    [*TO_FOLLOW, f"--log={NODE}"], [*TO_FOLLOW, "--log=nats://127.0.0.1:4223"], [*TO_FOLLOW, "--ledger=b"],
+    *([*TO_FOLLOW[:3], name, *TO_FOLLOW[4:]] for name in ("--Log", "--logs", "--lo", "-log", "-l", f"--log:{NODE}")),
+    [*TO_FOLLOW[:4], b"nats://127.0.0.1:4222\xff", *TO_FOLLOW[5:]], [*TO_FOLLOW[:6], b"2\xff", *TO_FOLLOW[7:]],
+    [*TO_FOLLOW[:-1], "-a"], [*TO_FOLLOW[:-1], b"\xff"],
+    # No option of `follow`, and those of `follow` and `log` for others.
+    *([*TO_FOLLOW, more] for more in (
+        "--journal=a", "--sync", "--early", "--replicas=3", "--port=9000", "--shards=4", "--control=9100", "--fly",
+        "--version", "-V",
+    )),
+    *([*words, more] for more in (f"--log={NODE}", "--partition=2", "--of=4", "--replicas=3") for words in (
+        TO_RUN, TO_CHECK, TO_STATE, TO_EXPLAIN, TO_PAGE, [*TO_REPLAY, "a"], TO_SERVE, TO_STAY,
+        ["audit", MISSING, LONDON, "--journal", "a"], ["rebuild", MISSING, "a"],
+    )),
+    # What is refused comes before a call for help after it.
+    ["follow", "--of=0", "--help"], ["follow", "--partition", "16", "-h"], ["follow", "--log", "--help"],
+    ["follow", "--ledger=a", "--ledger=a", "--help"], ["follow", MISSING, LONDON, "more", "-h"],
+)
+TAKEN_BY_FOLLOW = (
+    TO_FOLLOW, [*TO_FOLLOW, "--"], ["follow", *TO_FOLLOW[3:], MISSING, LONDON],
+    ["follow", MISSING, *TO_FOLLOW[3:], LONDON], ["follow", *TO_FOLLOW[3:7], MISSING, *TO_FOLLOW[7:], LONDON],
+    ["follow", "--ledger=-a", "--of=+04", MISSING, "--partition=02", f"--log={NODE}", LONDON],
+    ["follow", *TO_FOLLOW[3:], "--", "-fares", "-b"], ["follow", MISSING, *TO_FOLLOW[3:], "--", "-b"],
+    ["follow", "-", "no zone", *TO_FOLLOW[3:]], [*TO_FOLLOW[:-1], "-"], [*TO_FOLLOW[:-1], ""],
+    [*TO_FOLLOW[:-2], "--ledger="], [*TO_FOLLOW[:-1], MISSING],
+)
+REFUSED_BY_LOG = (
+    *(words[:count] for words in (TO_MAKE, TO_LOOK) for count in range(1, len(words))), ["--", *TO_LOOK],
+    *([*words, *more] for words in (TO_MAKE, TO_LOOK) for more in (["more"], [""], ["--", "more"])),
+    ["log", *TO_LOOK], ["LOG", *TO_LOOK[1:]], ["logs", *TO_LOOK[1:]], [b"log\xff", *TO_LOOK[1:]],
+    [*TO_LOOK[:4], "--", *TO_LOOK[4:]], [*TO_LOOK[:3], "-UTC0", *TO_LOOK[4:]],
+    # Each word is needed, and each option with its value, and given once.
+    *([*words[:at], *words[at + 1:]] for words in (TO_MAKE, TO_LOOK) for at in range(len(words))),
+    *([*words[:at], *words[at + 2:]] for words in (TO_MAKE, TO_LOOK) for at in range(4, len(words), 2)),
+    *([*words, *words[at:at + 2]] for words in (TO_MAKE, TO_LOOK) for at in range(4, len(words), 2)),
+    [*TO_LOOK, f"--log={NODE}"], [*TO_LOOK[:4], "--Log", *TO_LOOK[5:]], [*TO_LOOK[:4], "-log", *TO_LOOK[5:]],
+    [*TO_LOOK[:5], b"nats://127.0.0.1:4222\xff", *TO_LOOK[6:]],
+    # A log is made with a number of replicas, and checked with none.
+    ["log", "make", *TO_LOOK[2:]], ["log", "check", *TO_MAKE[2:]], [*TO_LOOK, "--replicas=1"],
+    # There is no other action, and it comes first.
+    *(["log", action, *words[2:]] for words in (TO_MAKE, TO_LOOK) for action in (
+        "", " ", "-", "mak", "makes", "Make", "MAKE", "make ", " make", "chec", "checks", "Check", "check\n", "move",
+        "help", "--make", "--check", b"make\xff",
+    )),
+    ["log", MISSING, "make", LONDON, *TO_MAKE[4:]], ["log", MISSING, LONDON, "check", *TO_LOOK[4:]],
+    # No option of `log`.
+    *([*words, more] for words in (TO_MAKE, TO_LOOK) for more in (
+        "--ledger=a", "--partition=2", "--journal=a", "--early", "--port=9000", "--lint", "--fly", "--version", "-V",
+    )),
+    # What is refused comes before a call for help after it.
+    ["log", "--of=0", "--help"], ["log", "make", "--replicas", "6", "-h"], ["log", "check", "--log", "--help"],
+    ["log", "--of=4", "--of=4", "--help"], ["log", "check", MISSING, LONDON, "more", "-h"],
+)
+TAKEN_BY_LOG = (
+    TO_MAKE, TO_LOOK, [*TO_MAKE, "--"], [*TO_LOOK, "--"], ["log", *TO_MAKE[4:], "make", MISSING, LONDON],
+    ["log", "--of", "4", "check", f"--log={NODE}", MISSING, LONDON], ["log", "check", MISSING, *TO_LOOK[4:], LONDON],
+    ["log", "--replicas=+03", "make", "--of=04", MISSING, f"--log={NODE}", "--", "-b"],
+    ["log", *TO_LOOK[4:], "--", "check", MISSING, LONDON], ["log", "check", "make", "no zone", *TO_LOOK[4:]],
+    ["log", "make", "check", LONDON, *TO_MAKE[4:]],
+)
+# URLs that name no port of 127.0.0.1, and URLs that do.
+NO_NODES = (
+    "", " ", "x", "4222", ":4222", "127.0.0.1:4222", "//127.0.0.1:4222", "nats:", "nats://", "nats://:4222",
+    "nats://127.0.0.1", "nats:127.0.0.1:4222", "nats:/127.0.0.1:4222", "nats:///127.0.0.1:4222", "nats//127.0.0.1:4222",
+    "tls://127.0.0.1:4222", "http://127.0.0.1:4222", "NATS://127.0.0.1:4222", "nats://localhost:4222",
+    "nats://127.0.0.10:4222", "nats://127.0.0.2:4222", "nats://127.1:4222", "nats://127.0.0.01:4222",
+    "nats://0.0.0.0:4222", "nats://[::1]:4222", "nats://me@127.0.0.1:4222", " nats://127.0.0.1:4222",
+    "nats://127.0.0.1 :4222", "nats://127.0.0.1:4222/", "nats://127.0.0.1:4222?a", "nats://127.0.0.1:4222\n",
+    "nats://127.0.0.1::4222", "nats://127.0.0.1:nats://127.0.0.1:4222", "nats://127.0.0.1:4222,nats://127.0.0.1:4223",
+    *(f"nats://127.0.0.1:{port}" for port in (
+        *NO_NUMBERS, "0", "00", "+0", "65536", "69758", "4294971518", "18446744073709555838",
+    )),
+)
+NODES = tuple(f"nats://127.0.0.1:{port}" for port in ("1", "65535", "+4222", "04222", "+0004222", "0" * 40 + "4222"))
+# Words that lack an option, and numbers of it outside its range, and in it.
+NUMBERS_OF_LOGS = (
+    ([*TO_FOLLOW[:5], "--of=16", "--ledger=a"], "partition", ("16", "256", "258", "4294967298"),
+     ("0", "00", "+0", "15", "+015")),
+    ([*TO_FOLLOW[:5], "--partition=0", "--ledger=a"], "of", ("0", "+0", "17", "257", "4294967297"),
+     ("1", "16", "+01", "016")),
+    (TO_LOOK[:6], "of", ("0", "+0", "17", "257", "4294967297"), ("1", "16", "+01", "016")),
+    (TO_MAKE[:8], "replicas", ("0", "+0", "6", "257", "4294967297"), ("1", "5", "+01", "005")),
+)
+# A partition, how many there are, and whether it is one of them.
+PARTITIONS = (
+    ("0", "1", True), ("1", "1", False), ("1", "2", True), ("3", "4", True), ("4", "4", False), ("5", "4", False),
+    ("9", "10", True), ("10", "9", False), ("14", "15", True), ("15", "15", False), ("15", "16", True),
+    ("015", "+016", True),
+)
+
+
+class Replicas(Theme):
+    """Words of replicas and of their log."""
+
+    def test_words_of_follow(self):
+        """Options of a replica, in whatever order, and partitions that there are and are not."""
+        for given in REFUSED_BY_FOLLOW:
+            self.check(f"the words {given}", run(given, cwd=self.folder), USAGE)
+        for given in TAKEN_BY_FOLLOW:
+            self.check(f"the words {given}", run(given, cwd=self.folder), NO_FARES)
+        for partition, count, is_taken in PARTITIONS:
+            self.check(
+                f"the partition {partition} of {count}",
+                run([*TO_FOLLOW[:5], f"--partition={partition}", "--of", count, "--ledger=a"], cwd=self.folder),
+                NO_FARES if is_taken else USAGE,
+            )
+        self.check(
+            "no file was made", End(0, b" ".join(name.encode() for name in os.listdir(self.folder))), answers(b"")
+        )
+
+    def test_words_of_log(self):
+        """What is done with the streams of a log, with a number of replicas or without."""
+        for given in REFUSED_BY_LOG:
+            self.check(f"the words {given}", run(given, cwd=self.folder), USAGE)
+        for given in TAKEN_BY_LOG:
+            self.check(f"the words {given}", run(given, cwd=self.folder), NO_FARES)
+
+    def test_nodes_and_numbers(self):
+        """URLs of nodes, and numbers of partitions and replicas, in and out of their ranges."""
+        for words, at in ((TO_FOLLOW, 3), (TO_MAKE, 4), (TO_LOOK, 4)):
+            for wanted, nodes in ((USAGE, NO_NODES), (NO_FARES, NODES)):
+                for node in nodes:
+                    for option in (["--log", node], [f"--log={node}"]):
+                        given = [*words[:at], *option, *words[at + 2:]]
+                        self.check(f"the words {given}", run(given, cwd=self.folder), wanted)
+        for words, name, refused, taken in NUMBERS_OF_LOGS:
+            for wanted, numbers in ((USAGE, (*NO_NUMBERS, *refused)), (NO_FARES, taken)):
+                for number in numbers:
+                    for option in ([f"--{name}", number], [f"--{name}={number}"]):
+                        given = [*words, *option]
+                        self.check(f"the words {given}", run(given, cwd=self.folder), wanted)
