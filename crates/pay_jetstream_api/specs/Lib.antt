@@ -1,2 +1,5 @@
+pub mod Answers
 pub mod Asking
+pub mod Finding
+pub mod Rows
 pub mod Words
