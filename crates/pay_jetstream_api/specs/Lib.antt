@@ -1,5 +1,8 @@
 pub mod Answers
 pub mod Asking
 pub mod Finding
+pub mod Numerals
 pub mod Rows
+pub mod StreamNumbers
+pub mod Versions
 pub mod Words

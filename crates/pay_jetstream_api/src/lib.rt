@@ -5,10 +5,16 @@
 mod answer;
 mod asking;
 mod fault;
+mod numeral;
+mod server;
+mod stream;
 mod value;
+mod version;
 
 pub use answer::{read_place, read_taken};
 pub use asking::{
     CONNECT_OPTIONS, StreamPlan, consumer_text, digests_text, last_text, stream_text,
 };
 pub use fault::ApiFault;
+pub use server::{Server, read_server};
+pub use stream::{Stream, read_stream};
