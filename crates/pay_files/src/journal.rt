@@ -214,7 +214,7 @@ pub fn ready_ledger<R: Files<File = File> + AllocGlobal>(
 
 /// Whether the file of a ledger is one that a database is made in anew, whatever the log beside it has: it is missing, or has a byte at
 /// most.
-pub(crate) fn is_new_ledger<R: Files>(rt: &R, ledger: &str) -> bool {
+pub fn is_new_ledger<R: Files>(rt: &R, ledger: &str) -> bool {
     match fs::metadata(rt, ledger) {
         Ok(file) => file.len() <= 1,
         Err(error) => error.kind() == ErrorKind::NotFound,

@@ -27,7 +27,9 @@ pub use check::check_fares;
 pub use close_watch::CloseWatch;
 pub use errors::memory_or;
 pub use input::{fares_text, print_warnings, report_line};
-pub use journal::{JournalFiles, open_journals, path_in, ready_ledger, settle_journals};
+pub use journal::{
+    JournalFiles, is_new_ledger, open_journals, path_in, ready_ledger, settle_journals,
+};
 pub use kept::{KeptFares, kept_in, noted_in};
 pub use lane_files::{LaneFiles, StaffFiles};
 pub use last_close::LastClose;
