@@ -1,20 +1,19 @@
 -- What follows of one line after another.
-use Rattle.std.proofs.Common.{◌≡◌, ℕ, ◌+◌, suc, false, List, [], ◌∷◌, ◌++◌, length, length-append, map, append_assoc, append-nil, refl, sym, ap, ◌∙◌, subst, arith, Option, Some, None}
+use Rattle.std.proofs.Common.{◌≡◌, ℕ, ◌+◌, suc, false, List, [], ◌∷◌, ◌++◌, length, length-append, map, append_assoc, append-nil, refl, sym, ap, ◌∙◌, subst, arith, Option, None}
 use Rattle.std.proofs.lemmas.List.{map-append}
-use Rattle.std.specs.Io.KnownBytes.{Appends}
 use Rattle.jiff.specs.declared.tz.timezone.TimeZone.{TimeZone}
 use Rattle.sqlite.specs.Held.{Held, state}
 use Rattle.sqlite.specs.State.{HasCleanDisk}
 use Rattle.sqlite.specs.Store.{Ghosts}
-use Rattle.pay_postings.specs.Words.{LedgerParts}
-use Rattle.pay_shard.specs.Words.{ShardParts}
 use Rattle.pay_wire.specs.Words.{spelling_of_reply}
 use Rattle.pay_wire.specs.declared.reply.SpelledReply.{SpelledReply}
 use Rattle.pay_session.specs.Words.{request_of}
 use Rattle.pay_session.specs.declared.request.Request.{Request}
-use Rattle.pay_run.specs.Words.{Machine, Failure, Outcome, outcome, machine_on, step, tells_failure, has_ledger_in, AnswersLine, IsAnsweredAs}
+use Rattle.pay_run.specs.Words.{Machine, Failure, outcome, machine_on, step, tells_failure, AnswersLine}
 use Rattle.pay_follow.specs.Partitions.{PartitionParts, read_on, publish, AreLines}
-use Rattle.pay_follow.specs.Following.{outcome_of, under, HasFollowed, Replica, replica, Follows}
+use Rattle.pay_follow.specs.declared.stop.Stop.{Stop}
+use Rattle.pay_follow.specs.declared.stop.Stop.TheVariants.{Read, Unanswered, Memory, Unpublished, NoMorePlaces}
+use Rattle.pay_follow.specs.Following.{outcome_of, under, HasFollowed, IsOwed, IsStoppedAt, IfUnpublished, Replica, replica, Follows}
 
 -- ---- one list of lines after another
 
@@ -91,3 +90,24 @@ follows_one store HasLine zone before after line text reply is answers ample spe
         machine = ap (λ s. s.after) (sym stepped);
       },
     )
+
+-- ---- a reply that is owed
+
+-- of the line after those that were followed
+pub owed_next : {S : Type 0} (store : Ghosts S) (HasLine : ℕ → List ℕ → Type 0) (zone : TimeZone) (before now after : Replica (Held S)) (stop : Stop) (reply : List ℕ)
+    → (HasCleanDisk (state store after.ledger) → HasCleanDisk (state store now.ledger)) → Follows store HasLine zone before now
+    → (more : List (ℕ × List ℕ)) × (now.partition.published ≡ before.partition.published ++ more) → IsStoppedAt stop now.partition after.partition
+    → IfUnpublished stop (Follows store HasLine zone now (replica after.shard after.ledger (publish (read_on now.partition) reply))) → IfUnpublished stop (IsOwed store HasLine zone before after reply)
+owed_next store HasLine zone before now after (Read fault) reply clean f grew at owed = tt
+owed_next store HasLine zone before now after (Unanswered why) reply clean f grew at owed = tt
+owed_next store HasLine zone before now after Memory reply clean f grew at owed = tt
+owed_next store HasLine zone before now after (Unpublished fault) reply clean f grew at owed =
+    let p = now.partition in
+    record {
+      was = p.last;
+      next = at;
+      more = grew.0;
+      follows = subst (λ l. Follows store HasLine zone before (replica after.shard after.ledger (record { last = suc p.last; published = l ++ (suc p.last, reply) ∷ [] }))) grew.1
+          (follows_then store HasLine zone before now (replica after.shard after.ledger (publish (read_on p) reply)) clean f owed);
+    }
+owed_next store HasLine zone before now after NoMorePlaces reply clean f grew at owed = tt

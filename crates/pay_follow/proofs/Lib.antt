@@ -1,2 +1,3 @@
 pub mod FollowedLines
 pub mod Replicas
+pub mod Resumed

@@ -1,10 +1,10 @@
 -- Two replicas of one partition.
-use Rattle.std.proofs.Common.{◌≡◌, ◌≤◌, ℕ, ◌+◌, suc, List, [], ◌∷◌, ◌++◌, length, length-append, map, append_assoc, append-nil, refl, sym, ap, ◌∙◌, subst, arith}
+use Rattle.std.proofs.Common.{◌≡◌, ◌≤◌, ℕ, ◌+◌, suc, List, [], ◌∷◌, ◌++◌, length, length-append, map, append_assoc, append-nil, refl, sym, ap, ◌∙◌, arith}
 use Rattle.std.proofs.lemmas.List.{map-append}
 use Rattle.pay_session.specs.Words.{request_of}
-use Rattle.pay_run.specs.Words.{Machine, outcome}
-use Rattle.pay_follow.specs.Partitions.{PartitionParts, AreLines}
-use Rattle.pay_follow.specs.Following.{outcome_of, under, HasFollowed}
+use Rattle.pay_run.specs.Words.{outcome}
+use Rattle.pay_follow.specs.Partitions.{AreLines}
+use Rattle.pay_follow.specs.Following.{outcome_of, under}
 use Rattle.pay_follow.specs.Laws.{HasOneLine, ReplicasAgree}
 use Rattle.pay_follow.proofs.FollowedLines.{replies_both, under_both}
 

@@ -62,11 +62,24 @@ abbrev pub IfRead : {X : Type 0} → Stop → X → X → Type 0
 IfRead (Read fault) before after = after ≡ before
 IfRead _ before after = ⊤
 
+-- so is what is said of a stop before the reply to the line that was read last was published
+abbrev pub IfUnpublished : Stop → Type 0 → Type 0
+IfUnpublished (Unpublished fault) A = A
+IfUnpublished _ A = ⊤
+
+-- Of the line that was read last this is the reply: all was followed, once it is published too.
+pub record IsOwed {S : Type 0} (store : Ghosts S) (HasLine : ℕ → List ℕ → Type 0) (zone : TimeZone) (before after : Replica (Held S)) (reply : List ℕ) : Type 0 where
+  pub was : ℕ
+  pub next : after.partition.last ≡ suc was
+  pub more : List (ℕ × List ℕ)
+  pub follows : Follows store HasLine zone before (replica after.shard after.ledger (record { last = suc was; published = (before.partition.published ++ more) ++ (suc was, reply) ∷ [] }))
+
 -- A replica followed its partition until a moment, and then stopped. Of its ledger it can be said what it was then where it can be said in
 -- the end.
 pub record HasStopped {S : Type 0} (store : Ghosts S) (HasLine : ℕ → List ℕ → Type 0) (zone : TimeZone) (before after : Replica (Held S)) (stop : Stop) : Type 0 where
   pub until : Replica (Held S)
   pub follows : Follows store HasLine zone before until
+  pub since : HasCleanDisk (state store until.ledger) → HasCleanDisk (state store before.ledger)
   pub clean : HasCleanDisk (state store after.ledger) → HasCleanDisk (state store until.ledger)
   pub stopped : IsStoppedAt stop until.partition after.partition
   pub goes_on : IfRead stop until after

@@ -1,4 +1,5 @@
 pub mod Partitions
 pub mod Following
 pub mod Laws
+pub mod Resuming
 pub mod Words

@@ -1,6 +1,6 @@
 //! Partitions of a replicated log.
-ghost use Rattle.std.specs.Prelude.{◌≡◌, ℕ, suc, List, OnOk, OnErr};
-ghost use Rattle.pay_follow.specs.Partitions.{PartitionParts, read_on, publish};
+ghost use Rattle.std.specs.Prelude.{◌≡◌, ℕ, suc, List, IfOk, OnOk, OnErr};
+ghost use Rattle.pay_follow.specs.Partitions.{PartitionParts, Within, read_on, read_up_to, publish};
 
 use crate::stop::LogFault;
 
@@ -31,4 +31,36 @@ pub trait Partition: Drop {
         ensures same { origin self.new ≡ origin self.old }
         ensures published { OnOk result (parts self.new ≡ publish (parts self.old) reply.now) }
         ensures last { OnErr result ((parts self.new).last ≡ (parts self.old).last) };
+
+    /// The place of the line that was read last.
+    fn last(&self) -> u64
+        ensures { result ≡ (parts self.now).last };
+}
+
+/// What opens a partition, again and again: at a connection to the log, which may be lost.
+pub trait Opens<P: Partition>: Drop {
+    /// What says which partitions it opens, which stays.
+    ghost Source: { Type 0 };
+
+    /// It.
+    ghost source: { Self → Self.Source };
+
+    /// By one of these partitions this line stands at this place.
+    ghost HasLine: { Self.Source → ℕ → List ℕ → Type 0 };
+
+    /// Opens the partition, of which the line after a place is to be read next.
+    fn open(&mut self, last: u64) -> Result<P, LogFault>
+        ensures same { source self.new ≡ source self.old }
+        ensures lines { IfOk result (λ partition. Within (P.HasLine (P.origin partition)) (HasLine (source self.old))) }
+        ensures at { IfOk result (λ partition. P.parts partition ≡ read_up_to last) };
+
+    /// Says why the log is not followed now, and waits.
+    fn pause(&mut self, fault: LogFault)
+        ensures same { source self.new ≡ source self.old };
+}
+
+/// Where the replicas of a partition find out whether their replies are the same.
+pub trait Compares: Drop {
+    /// Takes into account the reply to the line of a place, which is published after this. It is given again where that was in vain.
+    fn compare(&mut self, place: u64, reply: &[u8]) -> Result<(), LogFault>;
 }

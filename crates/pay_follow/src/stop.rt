@@ -8,12 +8,36 @@ pub enum LogFault {
     /// The connection to it failed, or it said nothing for too long.
     #[error("the log is not reached")]
     NotReached,
+    /// Nobody in it answers now: it has no leader, perhaps.
+    #[error("nobody in the log answers")]
+    NoAnswer,
     /// It gave what no log gives.
     #[error("the log is not understood")]
     NotUnderstood,
+    /// It refused what it was asked for, by a number of its own.
+    #[error("the log refused by {code}")]
+    Refused { code: u64 },
+    /// Its server is of a version whose replicas were seen to disagree.
+    #[error("the log's server is older than 2.10")]
+    TooOld,
+    /// What it says of the partition is not what this replica goes by.
+    #[error("the log's partition is of other fares, of another zone, or another one")]
+    Other,
+    /// Its first lines are gone.
+    #[error("the log was cut: it begins at place {first}")]
+    Cut { first: u64 },
+    /// It ends before the line that was read last.
+    #[error("the log ends at place {ends}, and place {read} was read")]
+    Short { read: u64, ends: u64 },
     /// In place of the next line it gave that of another place.
     #[error("after place {after} the log gave place {gave}")]
     Gap { after: u64, gave: u64 },
+    /// The line that was read last is another one by now.
+    #[error("the log gave two lines for place {place}")]
+    Changed { place: u64 },
+    /// Another replica's replies are others than this one's.
+    #[error("the replies up to place {place} are others than another replica's")]
+    Differs { place: u64 },
     /// Memory for a line, or for a reply, was refused.
     #[error("no memory")]
     Memory,

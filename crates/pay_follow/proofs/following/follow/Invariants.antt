@@ -1,4 +1,4 @@
-use Rattle.std.proofs.Common.{◌≡◌}
+use Rattle.std.proofs.Common.{◌≡◌, ◌+◌, ◌++◌, ℕ, List}
 use Rattle.sqlite.specs.Held.{state}
 use Rattle.sqlite.specs.State.{HasCleanDisk}
 use Rattle.pay_follow.specs.Following.{replica, Follows}
@@ -12,4 +12,6 @@ invariant-loop g l =
       same : P.origin l.partition ≡ P.origin l.initial.partition;
       clean : HasCleanDisk (state g.S.Store l.ledger) → HasCleanDisk (state g.S.Store l.initial.ledger);
       follows : Follows g.S.Store (P.HasLine (P.origin l.initial.partition)) l.initial.zone (replica l.initial.desk.shard l.initial.ledger (P.parts l.initial.partition)) (replica l.desk.shard l.ledger (P.parts l.partition));
+      many : (P.parts l.partition).last ≡ (P.parts l.initial.partition).last + l.counter;
+      grew : (more : List (ℕ × List ℕ)) × ((P.parts l.partition).published ≡ (P.parts l.initial.partition).published ++ more);
     }
