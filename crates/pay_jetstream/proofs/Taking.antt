@@ -5,6 +5,7 @@ use Rattle.std.specs.Io.BufRead.{take_through, drop_through, DropsThrough}
 use Rattle.std.proofs.Math.Seq.{drop-length}
 use Rattle.std.specs.List.{AllByRecursion, flat_map}
 use Rattle.pay_nats.specs.Frames.{IsFrame, Told, StandsAt, frame_bytes}
+use Rattle.pay_jetstream.specs.Answered.{IsAnswer, IsAnswerIn, IsAnswered}
 use Rattle.pay_jetstream.specs.Given.{IsGivenBy}
 use Rattle.pay_jetstream.specs.Taken.{GivesIn, HasTakenFrames, IsWhole, Takes}
 
@@ -92,3 +93,28 @@ given_line (Some all) before after held sid place line taken takes gives =
       sound = gives.2;
       gives = gives.4;
     }
+
+-- ---- an answer
+
+pub took_none : (began : Option (List ℕ)) → HasTakenFrames began began
+took_none None = tt
+took_none (Some all) = ([], all, refl, record { sound = tt; whole = refl })
+
+pub answered : {A E : Type 0} (r : Result A E) (began before after : Option (List ℕ)) (held payload answer : List ℕ) → HasTakenFrames began before → Takes before after held → IsAnswerIn held payload
+    → OnOk r (answer ≡ payload) → OnOk r (IsAnswered began answer)
+answered (Err e) began before after held payload answer taken takes heard same = tt
+answered (Ok a) None before after held payload answer taken takes heard same = tt
+answered (Ok a) (Some all) before after held payload answer taken takes heard same =
+    let are = taken.3 in
+    let left = subst (λ (o : Option (List ℕ)). Takes o after held) taken.2 takes in
+    let frame = heard.0 in (
+      taken.0,
+      frame,
+      heard.1 ++ left.0,
+      record {
+        sound = are.sound;
+        whole = are.whole ∙ ap (λ l. flat_map frame_bytes taken.0 ++ l) (left.2 ∙ ap (λ l. l ++ left.0) heard.3 ∙ append_assoc (frame_bytes frame) heard.1 left.0);
+      },
+      heard.2,
+      subst (IsAnswer frame) (sym same) heard.4,
+    )

@@ -1,6 +1,7 @@
 //! A partition of a log in a stream of JetStream.
 ghost use Rattle.std.specs.Prelude.{◌≡◌, ◌++◌, [], true, false, suc, decimal, None, OnOk, OnErr, IfOk};
 ghost use Rattle.pay_nats.specs.Requests.{published};
+ghost use Rattle.pay_jetstream.specs.Asks.{Answers};
 ghost use Rattle.pay_jetstream.specs.Given.{IsGivenBy};
 ghost use Rattle.pay_jetstream.specs.StreamParts.{IsSameStream};
 ghost use Rattle.pay_jetstream.specs.Taken.{GivesIn};
@@ -65,6 +66,7 @@ fn heed<W: KnownWriter>(
     line: &mut Vec<u8>,
 ) -> Result<bool, LogFault>
     ensures line { IfOk result (λ is_line. is_line ≡ true → GivesIn sid held.now (suc last) line.new.items) }
+    ensures written { OnOk result (Answers (W.contents writer.old) (W.contents writer.new)) }
 {
     let said = match read_frame(held) {
         Ok(Some((frame, _))) => said_of(&frame, sid),
@@ -116,6 +118,7 @@ impl<R: BufRead, W: KnownWriter> JetStream<R, W> {
         ensures line { IfOk result (λ is_line. is_line ≡ true → (self.new.last ≡ suc self.old.last) × IsGivenBy (self.old.sid, self.old.sent) (suc self.old.last) line.new.items) }
         ensures stays { IfOk result (λ is_line. is_line ≡ false → self.new.last ≡ self.old.last) }
         ensures failed { OnErr result (self.new.last ≡ self.old.last) }
+        ensures written { OnOk result (Answers self.old.written self.new.written) }
     {
         if self.failed {
             return Err(LogFault::NotReached);
@@ -139,12 +142,12 @@ impl<R: BufRead, W: KnownWriter> JetStream<R, W> {
 }
 
 impl<R: BufRead + Drop, W: KnownWriter + Drop> Partition for JetStream<R, W> {
-    ghost use Rattle.std.specs.Prelude.{ℕ, List, Option};
+    ghost use Rattle.std.specs.Prelude.{◌≡◌, ℕ, suc, List, Option, OnOk, OnErr};
+    ghost use Rattle.pay_jetstream.specs.Asks.{Answers};
     ghost use Rattle.pay_jetstream.specs.Given.{IsGivenBy};
-    ghost use Rattle.std.specs.Prelude.{◌≡◌, OnOk, OnErr};
     ghost use Rattle.std.specs.Io.KnownBytes.{Appends};
     ghost use Rattle.pay_nats.specs.Requests.{request_bytes};
-    ghost use Rattle.pay_follow.specs.Words.{publish};
+    ghost use Rattle.pay_follow.specs.Words.{publish, read_on};
     ghost use Rattle.pay_jetstream.specs.StreamParts.{origin_of, partition_of, reply_at};
 
     ghost Origin = { ℕ × Option (List ℕ) };
@@ -155,7 +158,14 @@ impl<R: BufRead + Drop, W: KnownWriter + Drop> Partition for JetStream<R, W> {
 
     ghost parts = { λ s. partition_of s };
 
-    fn read(&mut self, line: &mut Vec<u8>) -> Result<(), LogFault> {
+    // The trait's clauses, and what is written.
+    fn read(&mut self, line: &mut Vec<u8>) -> Result<(), LogFault>
+        ensures same { origin_of self.new ≡ origin_of self.old }
+        ensures line { OnOk result (IsGivenBy (origin_of self.old) (suc (partition_of self.old).last) line.new.items) }
+        ensures next { OnOk result (partition_of self.new ≡ read_on (partition_of self.old)) }
+        ensures stays { OnErr result (partition_of self.new ≡ partition_of self.old) }
+        ensures written { OnOk result (Answers self.old.written self.new.written) }
+    {
         for _ in 0..MOST_FRAMES {
             if self.take_frame(line)? {
                 return Ok(());
@@ -186,6 +196,10 @@ impl<R: BufRead + Drop, W: KnownWriter + Drop> Partition for JetStream<R, W> {
             reply: Snapshot::of(&self.reply),
         };
         Ok(())
+    }
+
+    fn last(&self) -> u64 {
+        self.last
     }
 }
 
