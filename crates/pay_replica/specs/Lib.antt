@@ -1,0 +1,4 @@
+pub mod Descriptions
+pub mod Digested
+pub mod Laws
+pub mod Replicas
