@@ -2,6 +2,7 @@
 #![tactic(auto)]
 
 mod explain;
+mod follow;
 mod page;
 mod program;
 mod serve;

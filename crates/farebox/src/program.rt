@@ -2,6 +2,7 @@
 ghost use Rattle.farebox.specs.NoJob.{IsTextOrFault};
 
 use crate::explain::explain_account;
+use crate::follow::{follow_log, keep_log};
 use crate::page::show_pages;
 use crate::serve::serve_sessions;
 use crate::statement::state_account;
@@ -130,6 +131,8 @@ where
         Ok(Job::Stay(words)) => stay_on(rt, &words),
         Ok(Job::Audit(words)) => audit_files(&rt, &words),
         Ok(Job::Rebuild(words)) => rebuild_lines(&rt, &words),
+        Ok(Job::Follow(words)) => follow_log(rt, &words),
+        Ok(Job::Log(words)) => keep_log(rt, &words),
         Err(none) => print_text(&rt, none),
     }
 }
