@@ -27,6 +27,13 @@ def is_free(port):
         return True
 
 
+def listens(port):
+    """Whether somebody listens at a port."""
+    with contextlib.suppress(OSError), socket.create_connection((HOST, port)):
+        return True
+    return False
+
+
 def free_ports(count):
     """The first of so many free ports in a row."""
     draw = random.SystemRandom()

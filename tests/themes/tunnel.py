@@ -15,7 +15,7 @@ import unittest
 from support.journals import new_folder
 from support.repository import ROOT
 from support.running import TIME_TO_END, TIME_TO_REPLY, written
-from support.serving import HOST, boarding, free_ports
+from support.serving import HOST, boarding, free_ports, listens
 from support.staying import staying
 from support.theme import Theme
 
@@ -33,13 +33,6 @@ def told_lines():
     with open(f"{ROOT}/docs/OPERATIONS.md", encoding="utf-8") as document:
         block = re.search(r"^    \[readers\]\n(?:    .*\n|\n)*", document.read(), re.M)
     return re.sub("^    ", "", block.group(), flags=re.M)
-
-
-def listens(port):
-    """Whether somebody listens at a port."""
-    with contextlib.suppress(OSError), socket.create_connection((HOST, port)):
-        return True
-    return False
 
 
 class Tunnel(Theme):
