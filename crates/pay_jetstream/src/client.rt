@@ -20,6 +20,7 @@ const OLDEST: (u64, u64) = (2, 10);
 
 /// By these numbers JetStream refuses what it cannot do now, while its servers agree on a leader.
 const UNAVAILABLE: u64 = 10_008;
+
 const NOT_LEADER: u64 = 10_009;
 
 /// The number of the subscription to answers.

@@ -18,9 +18,9 @@ loop-preserved g c =
     let taken = took_frame _ _ (remaining c.read_whole.new.reader) c.read_whole.new.held.items c.loop.invariant.taken c.in_ok-read_whole.ensures.taken c.in_ok-read_whole.ensures.whole in
     elim c.match-heard_of_answer.branch [
       | in-Ping+in_ok-write-in-Ping w ↦ subst (λ s. record { taken : HasTakenFrames (remaining now.reader) (remaining s.reader); inbox : s.inbox ≡ now.inbox; written : Asks [] (contents now.writer) (contents s.writer) }) (sym w.self-is)
-        (record { taken = taken; inbox = c.loop.invariant.inbox; written = asks_pong [] _ _ _ c.loop.invariant.written w.in_ok-write-in-Ping.ensures })
+          (record { taken = taken; inbox = c.loop.invariant.inbox; written = asks_pong [] _ _ _ c.loop.invariant.written w.in_ok-write-in-Ping.ensures })
       | in-Other w ↦ subst (λ s. record { taken : HasTakenFrames (remaining now.reader) (remaining s.reader); inbox : s.inbox ≡ now.inbox; written : Asks [] (contents now.writer) (contents s.writer) }) (sym w.self-is)
-        (record { taken = taken; inbox = c.loop.invariant.inbox; written = c.loop.invariant.written })
+          (record { taken = taken; inbox = c.loop.invariant.inbox; written = c.loop.invariant.written })
     ]
 
 pub returns-in-Awaited-clause-answer : goal.returns-in-Awaited-clause-answer
