@@ -1,0 +1,24 @@
+-- What partitions come to.
+use Rattle.std.specs.Prelude.{◌≡◌, ◌<◌, ◌≤◌, ℕ, List, []}
+use Rattle.pay_rules.specs.State.{accepted_of}
+use Rattle.pay_session.specs.declared.request.Request.{Request}
+use Rattle.pay_run.specs.Words.{Machine, outcome, own_replies}
+use Rattle.pay_partitions.specs.Partitions.{AreOwn, log_of, moved, partition_of}
+
+-- Of an account two lists of requests come to the same, on one machine: its own are answered alike, and it has accepted the same.
+abbrev pub ComeToTheSame : Machine → ℕ → List Request → List Request → Type 0
+ComeToTheSame m account some others = (own_replies account m some ≡ own_replies account m others)
+    × (accepted_of (outcome [] m some).after.accounts account ≡ accepted_of (outcome [] m others).after.accounts account)
+
+-- all requests, and the log of its partition
+abbrev pub PartitionsAreOne : Type 0
+PartitionsAreOne = (m : Machine) (of account : ℕ) (list : List Request) → ComeToTheSame m account (log_of of (partition_of of account) list) list
+
+-- The old log of its partition, and the new one: whatever order the old logs had, as long as an account's requests are in its own.
+abbrev pub MovesAreTheSame : Type 0
+MovesAreTheSame = (m : Machine) (before of account : ℕ) (logs : ℕ → List Request) → 1 ≤ before → ((p : ℕ) → p < before → AreOwn before p (logs p))
+    → ComeToTheSame m account (moved before logs of (partition_of of account)) (logs (partition_of before account))
+
+-- so all requests, and the new log of its partition, after a move from logs that had them
+abbrev pub MovedAreOne : Type 0
+MovedAreOne = (m : Machine) (before of account : ℕ) (list : List Request) → 1 ≤ before → ComeToTheSame m account (moved before (λ p. log_of before p list) of (partition_of of account)) list

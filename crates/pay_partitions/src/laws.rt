@@ -1,0 +1,19 @@
+//! What partitions come to. Each law is the contract of a function that does nothing: a caller whose proof needs a law calls its function.
+ghost use Rattle.pay_partitions.specs.Laws.{MovedAreOne, MovesAreTheSame, PartitionsAreOne};
+
+/// Partitions are one machine over all accounts: each account's requests are answered in its partition as among all, and it has accepted the
+/// same.
+pub fn partitions_are_one()
+    ensures { PartitionsAreOne }
+{
+    pay_run::laws::own_requests();
+}
+
+/// Where logs are moved to another number of partitions, each account's requests are answered in the new ones as in the old, and it has
+/// accepted the same.
+pub fn moves_are_the_same()
+    ensures moves { MovesAreTheSame }
+    ensures moved { MovedAreOne }
+{
+    pay_run::laws::own_requests();
+}
