@@ -1,1 +1,2 @@
 mod Parted
+mod PostedParts

@@ -1,6 +1,9 @@
 -- What partitions come to.
-use Rattle.std.specs.Prelude.{◌≡◌, ◌<◌, ◌≤◌, ℕ, List, []}
+use Rattle.std.specs.Prelude.{◌≡◌, ◌<◌, ◌≤◌, ℕ, Bool, List, [], filter, Ok, IfOk}
 use Rattle.pay_rules.specs.State.{accepted_of}
+use Rattle.pay_rules.specs.QuoteParts.{QuoteParts}
+use Rattle.pay_rules.specs.declared.posting.Posting.{Posting}
+use Rattle.pay_postings.specs.Words.{post_each}
 use Rattle.pay_session.specs.declared.request.Request.{Request}
 use Rattle.pay_run.specs.Words.{Machine, outcome, own_replies}
 use Rattle.pay_partitions.specs.Partitions.{AreOwn, log_of, moved, partition_of}
@@ -22,3 +25,18 @@ MovesAreTheSame = (m : Machine) (before of account : ℕ) (logs : ℕ → List R
 -- so all requests, and the new log of its partition, after a move from logs that had them
 abbrev pub MovedAreOne : Type 0
 MovedAreOne = (m : Machine) (before of account : ℕ) (list : List Request) → 1 ≤ before → ComeToTheSame m account (moved before (λ p. log_of before p list) of (partition_of of account)) list
+
+-- ---- postings
+
+-- those of some accounts, in order, and the quotes of these
+abbrev pub postings_in : (ℕ → Bool) → List Posting → List Posting
+postings_in own = filter (λ p. own p.quote.account)
+
+abbrev pub quotes_in : (ℕ → Bool) → List QuoteParts → List QuoteParts
+quotes_in own = filter (λ q. own q.account)
+
+-- Where quotes are posted, those of some accounts are posted alike over their own postings: to each the same posting, and then those
+-- accounts have the same.
+abbrev pub PostingsArePosted : Type 0
+PostingsArePosted = (own : ℕ → Bool) (list : List Posting) (quotes : List QuoteParts)
+    → IfOk (post_each list quotes) (λ it. post_each (postings_in own list) (quotes_in own quotes) ≡ Ok (postings_in own it.0, postings_in own it.1))
