@@ -1,2 +1,3 @@
+mod ArchivedParts
 mod Parted
 mod PostedParts

@@ -1,9 +1,13 @@
 -- What partitions come to.
 use Rattle.std.specs.Prelude.{◌≡◌, ◌<◌, ◌≤◌, ℕ, Bool, List, [], filter, Ok, IfOk}
+use Rattle.std.specs.List.{AllByRecursion}
 use Rattle.pay_rules.specs.State.{accepted_of}
 use Rattle.pay_rules.specs.QuoteParts.{QuoteParts}
 use Rattle.pay_rules.specs.declared.posting.Posting.{Posting}
-use Rattle.pay_postings.specs.Words.{post_each}
+use Rattle.pay_rules.specs.SetsParts.{SetsParts}
+use Rattle.pay_rules.specs.declared.tap.Tap.{Tap}
+use Rattle.pay_rules.specs.declared.fix.Fix.{Fix}
+use Rattle.pay_postings.specs.Words.{LedgerParts, post_each, posted}
 use Rattle.pay_session.specs.declared.request.Request.{Request}
 use Rattle.pay_run.specs.Words.{Machine, outcome, own_replies}
 use Rattle.pay_partitions.specs.Partitions.{AreOwn, log_of, moved, partition_of}
@@ -40,3 +44,30 @@ quotes_in own = filter (λ q. own q.account)
 abbrev pub PostingsArePosted : Type 0
 PostingsArePosted = (own : ℕ → Bool) (list : List Posting) (quotes : List QuoteParts)
     → IfOk (post_each list quotes) (λ it. post_each (postings_in own list) (quotes_in own quotes) ≡ Ok (postings_in own it.0, postings_in own it.1))
+
+-- ---- archives
+
+-- the taps and the corrections of some accounts, in order, and the sets of these
+abbrev pub taps_in : (ℕ → Bool) → List Tap → List Tap
+taps_in own = filter (λ t. own t.account)
+
+abbrev pub fixes_in : (ℕ → Bool) → List Fix → List Fix
+fixes_in own = filter (λ f. own f.account)
+
+abbrev pub sets_in : (ℕ → Bool) → List SetsParts → List SetsParts
+sets_in own = filter (λ s. own s.account)
+
+-- what an account has accepted is its own
+pub record IsOfAccount (s : SetsParts) : Type 0 where
+  pub taps : AllByRecursion (λ t. t.account ≡ s.account) s.taps
+  pub fixes : AllByRecursion (λ f. f.account ≡ s.account) s.fixes
+
+-- the part of a ledger that is of some accounts
+abbrev pub ledger_in : (ℕ → Bool) → LedgerParts → LedgerParts
+ledger_in own ledger = record { postings = postings_in own ledger.postings; taps = taps_in own ledger.taps; fixes = fixes_in own ledger.fixes }
+
+-- Where quotes are posted and sets archived, those of some accounts alone come to the part of that: to each quote the same posting, and then
+-- the same part of the ledger.
+abbrev pub LedgersArePosted : Type 0
+LedgersArePosted = (own : ℕ → Bool) (ledger : LedgerParts) (quotes : List QuoteParts) (sets : List SetsParts) → AllByRecursion IsOfAccount sets
+    → IfOk (posted ledger quotes sets) (λ it. posted (ledger_in own ledger) (quotes_in own quotes) (sets_in own sets) ≡ Ok (postings_in own it.0, ledger_in own it.1))

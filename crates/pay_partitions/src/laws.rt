@@ -1,5 +1,5 @@
 //! What partitions come to. Each law is the contract of a function that does nothing: a caller whose proof needs a law calls its function.
-ghost use Rattle.pay_partitions.specs.Laws.{MovedAreOne, MovesAreTheSame, PartitionsAreOne, PostingsArePosted};
+ghost use Rattle.pay_partitions.specs.Laws.{LedgersArePosted, MovedAreOne, MovesAreTheSame, PartitionsAreOne, PostingsArePosted};
 
 /// Partitions are one machine over all accounts: each account's requests are answered in its partition as among all, and it has accepted the
 /// same.
@@ -18,8 +18,9 @@ pub fn moves_are_the_same()
     pay_run::laws::own_requests();
 }
 
-/// Where quotes are posted, those of some accounts alone are posted alike over the postings of these: so what a partition posts for its quotes
-/// is what a ledger of all accounts has of its accounts.
-pub fn postings_are_posted()
-    ensures { PostingsArePosted }
+/// Where quotes are posted and sets archived, those of some accounts alone are so over the part of the ledger that is of these: so what a
+/// partition posts is what a ledger of all accounts has of its accounts.
+pub fn parts_are_posted()
+    ensures postings { PostingsArePosted }
+    ensures ledgers { LedgersArePosted }
 {}
