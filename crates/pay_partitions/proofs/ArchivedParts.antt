@@ -3,7 +3,6 @@ use Rattle.std.proofs.Common.{◌≡◌, ℕ, ◌==◌, ◌&&◌, Bool, true, fa
 use Rattle.std.proofs.lemmas.Bool.{true≢false, eqb-true}
 use Rattle.std.proofs.lemmas.List.Elements.{filter-append}
 use Rattle.std.specs.List.{AllByRecursion}
-use Rattle.pay_rules.specs.QuoteParts.{QuoteParts}
 use Rattle.pay_rules.specs.SetsParts.{SetsParts}
 use Rattle.pay_rules.specs.declared.tap.Tap.{Tap}
 use Rattle.pay_rules.specs.Taps.{same_tap}
@@ -14,7 +13,7 @@ use Rattle.pay_rules.specs.declared.post_fault.PostFault.{PostFault}
 use Rattle.pay_rules.specs.declared.post_fault.PostFault.TheVariants.{ArchiveConflict}
 use Rattle.pay_postings.specs.Archive.{archived_beside, archived_each, archived_fix, archived_set, archived_sets, archived_tap, is_fix_numbered_as, is_numbered_as}
 use Rattle.pay_postings.specs.Faults.{◌>>=◌}
-use Rattle.pay_postings.specs.Ledger.{LedgerParts, posted}
+use Rattle.pay_postings.specs.Ledger.{LedgerParts}
 use Rattle.pay_postings.specs.Postings.{post_each}
 use Rattle.pay_partitions.specs.Laws.{IsOfAccount, LedgersArePosted, fixes_in, ledger_in, postings_in, quotes_in, sets_in, taps_in}
 use Rattle.pay_partitions.proofs.PostedParts.{parts_posted}
