@@ -1,6 +1,5 @@
 -- The archive of some accounts, in that of all.
 use Rattle.std.proofs.Common.{◌≡◌, ℕ, ◌==◌, ◌&&◌, Bool, true, false, if◌then◌else◌, List, [], ◌∷◌, ◌++◌, filter, find, Option, Some, None, Result, Ok, Err, IfOk, refl, sym, ap, ◌∙◌, append-nil}
-use Rattle.std.proofs.lemmas.Bool.{true≢false, eqb-true}
 use Rattle.std.proofs.lemmas.List.Elements.{filter-append}
 use Rattle.std.specs.List.{AllByRecursion}
 use Rattle.pay_rules.specs.SetsParts.{SetsParts}
@@ -16,7 +15,7 @@ use Rattle.pay_postings.specs.Faults.{◌>>=◌}
 use Rattle.pay_postings.specs.Ledger.{LedgerParts}
 use Rattle.pay_postings.specs.Postings.{post_each}
 use Rattle.pay_partitions.specs.Laws.{IsOfAccount, LedgersArePosted, fixes_in, ledger_in, postings_in, quotes_in, sets_in, taps_in}
-use Rattle.pay_partitions.proofs.PostedParts.{parts_posted}
+use Rattle.pay_partitions.proofs.PostedParts.{apart, parts_posted}
 
 -- ---- one thing more in an archive
 
@@ -90,10 +89,6 @@ each_stays own with_one keeps list [] all = refl
 each_stays own with_one keeps list (x ∷ more) all = stays_then own with_one more list (with_one list x) (keeps.1 list x all.0) (λ now. each_stays own with_one keeps now more all.1)
 
 -- ---- taps and corrections
-
-apart : (own : ℕ → Bool) (account other : ℕ) → own account ≡ true → own other ≡ false → (b : Bool) → (other == account) ≡ b → b ≡ false
-apart own account other is isnt true e = absurd (true≢false (sym is ∙ ap own (sym (eqb-true other account e)) ∙ isnt))
-apart own account other is isnt false e = refl
 
 tap_keeps : (own : ℕ → Bool) → KeepsPart (λ (t : Tap). own t.account) archived_tap
 tap_keeps own = (

@@ -24,7 +24,7 @@ fold_own step test skip so_far [] = refl
 fold_own step test skip so_far (x ∷ list) = one_more step so_far x (filter test list) list (test x) (skip so_far x) (λ a. fold_own step test skip a list)
 
 -- an account that is none of these is another than one of them
-apart : (own : ℕ → Bool) (account other : ℕ) → own account ≡ true → own other ≡ false → (b : Bool) → (other == account) ≡ b → b ≡ false
+pub apart : (own : ℕ → Bool) (account other : ℕ) → own account ≡ true → own other ≡ false → (b : Bool) → (other == account) ≡ b → b ≡ false
 apart own account other is isnt true e = absurd (true≢false (sym is ∙ ap own (sym (eqb-true other account e)) ∙ isnt))
 apart own account other is isnt false e = refl
 
