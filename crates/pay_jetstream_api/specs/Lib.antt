@@ -1,7 +1,6 @@
 pub mod Answers
 pub mod Asking
 pub mod Finding
-pub mod Numerals
 pub mod Rows
 pub mod StreamNumbers
 pub mod Versions

@@ -2,7 +2,7 @@
 use Rattle.std.specs.Prelude.{ℕ, ◌≡◌, ◌==◌, nat_lt, Bool, List, length, Option, Some, None, if◌then◌else◌, codes, option_and_then, refl}
 use Rattle.std.specs.Fmt.{digits}
 use Rattle.std.specs.List.{before_first, after_first, position_or_len}
-use Rattle.pay_jetstream_api.specs.Numerals.{number_of}
+use Rattle.pay_numeral.specs.Numerals.{number_of}
 
 infixl 10 ◌>>=◌
 abbrev ◌>>=◌ : {A B : Type 0} → Option A → (A → Option B) → Option B

@@ -5,7 +5,6 @@
 mod answer;
 mod asking;
 mod fault;
-mod numeral;
 mod server;
 mod stream;
 mod value;

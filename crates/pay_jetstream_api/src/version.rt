@@ -2,7 +2,7 @@
 ghost use Rattle.std.specs.Prelude.{◌≡◌, option_map};
 ghost use Rattle.pay_jetstream_api.specs.Versions.{parted, version_of};
 
-use crate::numeral::number_of;
+use pay_numeral::number_of;
 
 /// The two numbers with which a version begins, as 2 and 10 of `2.10.27`.
 #[tactic(auto, unfolding(crate::specs::Versions::version_of))]
@@ -11,7 +11,7 @@ pub(crate) fn version_of(version: &str) -> Option<(u64, u64)>
 {
     let (major, rest) = parted(version)?;
     let (minor, _) = parted(rest)?;
-    Some((number_of(major)?, number_of(minor)?))
+    Some((number_of(major.as_bytes())?, number_of(minor.as_bytes())?))
 }
 
 /// What stands before the first dot and after it, if there is one.

@@ -9,13 +9,13 @@ use Rattle.std.proofs.lemmas.Option.{cond_some, same_Some, some_pair_parts}
 use Rattle.std.proofs.lemmas.Slice.Eq.{starts_is}
 use Rattle.pay_nats.specs.AckReading.{ack_at, ack_in, without_prefix, counts_of, number_before}
 use Rattle.pay_nats.specs.Acks.{AckOf, HasNoDot, IsAck, ack_subject, acked}
-use Rattle.pay_nats.specs.Numerals.{number_of}
+use Rattle.pay_numeral.specs.Numerals.{number_of}
 use Rattle.pay_nats.specs.Parts.{is_byte, parted}
 use Rattle.pay_nats.specs.declared.ack.Ack.{Ack}
 use Rattle.pay_nats.specs.declared.ack.Counts.{Counts}
 use Rattle.pay_nats.proofs.Bytes.{no_digit}
 use Rattle.pay_nats.proofs.MessageWords.{bind_some}
-use Rattle.pay_nats.proofs.Numbered.{number_again, number_is}
+use Rattle.pay_numeral.proofs.Numbered.{number_again, number_is}
 use Rattle.pay_nats.proofs.TwoParts.{parted_again, parted_is}
 
 no_dot_in : (n : ℕ) → n < 2 ^ 64 → HasNoDot (decimal n)

@@ -11,7 +11,6 @@ pub mod Kept
 pub mod LineMeanings
 pub mod Meanings
 pub mod MessageWords
-pub mod Numbered
 pub mod Parted
 pub mod Payloads
 pub mod Reframed

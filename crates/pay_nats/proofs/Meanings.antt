@@ -4,11 +4,11 @@ use Rattle.std.specs.Prelude.{IfSome, decimal, nat_le}
 use Rattle.std.proofs.lemmas.Bool.{le-leb, leb-true}
 use Rattle.std.proofs.lemmas.Option.{cond_some, same_Some}
 use Rattle.pay_nats.specs.Frames.{Address, IsSized, Meaning, Sized}
-use Rattle.pay_nats.specs.Numerals.{number_of}
+use Rattle.pay_numeral.specs.Numerals.{number_of}
 use Rattle.pay_nats.specs.Reading.{Words, headers_of, if_subject, meaning_of_words, reply_of}
 use Rattle.pay_nats.specs.Subjects.{is_subject}
 use Rattle.pay_nats.proofs.MessageWords.{bind_some}
-use Rattle.pay_nats.proofs.Numbered.{number_again, number_is}
+use Rattle.pay_numeral.proofs.Numbered.{number_again, number_is}
 
 -- the words of a message's line
 abbrev pub words_of : Address → Option ℕ → ℕ → Words

@@ -7,7 +7,7 @@ use Rattle.pay_nats.specs.Faults.{HasNoNewline, is_newline}
 use Rattle.pay_nats.specs.HeaderReading.{before_cr}
 use Rattle.pay_nats.specs.Laws.{RequestsAreToldApart}
 use Rattle.pay_nats.specs.Lines.{content, crlf, spaced, with_word}
-use Rattle.pay_nats.specs.Numerals.{number_of}
+use Rattle.pay_numeral.specs.Numerals.{number_of}
 use Rattle.pay_nats.specs.Parts.{is_byte, is_space, parted}
 use Rattle.pay_nats.specs.Reading.{◌>>=◌, headed_words, message_words}
 use Rattle.pay_nats.specs.Requests.{Asked, Connect, IsPublished, IsRequest, Ping, Pong, Publish, Published, Subscribe, Unsubscribe, connect_line, request_bytes, subscribe_line, unsubscribe_line}
@@ -17,7 +17,7 @@ use Rattle.pay_nats.proofs.Firsts.{without_front, none_in_both}
 use Rattle.pay_nats.proofs.Headed.{cr_again}
 use Rattle.pay_nats.proofs.LineMeanings.{no_space_reply}
 use Rattle.pay_nats.proofs.MessageWords.{HasNoSpace, headed_again, message_again}
-use Rattle.pay_nats.proofs.Numbered.{number_again}
+use Rattle.pay_numeral.proofs.Numbered.{number_again}
 use Rattle.pay_nats.proofs.Reframed.{no_newline_reply, no_newline_word}
 use Rattle.pay_nats.proofs.TwoParts.{parted_again, parted_none}
 

@@ -2,7 +2,7 @@
 use Rattle.std.specs.Prelude.{ℕ, nat_eq, List, drop, Option, Some, None, option_and_then, if◌then◌else◌, codes}
 use Rattle.std.specs.List.{starts_with}
 use Rattle.pay_nats.specs.Acks.{AckOf}
-use Rattle.pay_nats.specs.Numerals.{number_of}
+use Rattle.pay_numeral.specs.Numerals.{number_of}
 use Rattle.pay_nats.specs.Parts.{is_byte, parted}
 use Rattle.pay_nats.specs.Reading.{◌>>=◌}
 use Rattle.pay_nats.specs.declared.ack.Counts.{Counts}

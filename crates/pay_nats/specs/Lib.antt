@@ -6,7 +6,6 @@ pub mod HeaderReading
 pub mod Headers
 pub mod Laws
 pub mod Lines
-pub mod Numerals
 pub mod Parts
 pub mod Reading
 pub mod Requests

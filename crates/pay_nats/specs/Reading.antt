@@ -6,7 +6,7 @@ use Rattle.pay_nats.specs.Faults.{is_newline, most_at}
 use Rattle.pay_nats.specs.Lines.{crlf, spaced, with_word}
 use Rattle.pay_nats.specs.Frames.{Address, Told, Meaning, Whole, Sized, is_text}
 use Rattle.pay_nats.specs.Frames.{Info, Message, Ping, Pong, Done, Fault}
-use Rattle.pay_nats.specs.Numerals.{number_of}
+use Rattle.pay_numeral.specs.Numerals.{number_of}
 use Rattle.pay_nats.specs.Parts.{is_space, parted}
 use Rattle.pay_nats.specs.Subjects.{is_subject}
 use Rattle.pay_nats.specs.declared.frame.FrameFault.{FrameFault}

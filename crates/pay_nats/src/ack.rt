@@ -3,8 +3,8 @@ ghost use Rattle.std.specs.Prelude.{◌≡◌, Some, option_copied, option_map, 
 ghost use Rattle.pay_nats.specs.AckReading.{ack_at, ack_in, without_prefix, counts_of, number_before};
 ghost use Rattle.pay_nats.specs.Acks.{AckOf, IsAck, ack_subject, acked};
 
-use crate::numeral::number_of;
 use crate::parts::parted;
+use pay_numeral::number_of;
 
 /// What the subject says to which a message of a stream is acknowledged: `$JS.ACK.stream.consumer.delivered.place.consumer_place.time.pending`.
 #[derive(Clone, Copy, Debug, PartialEq, Eq)]

@@ -10,7 +10,6 @@ pub mod laws;
 pub mod limits;
 mod line;
 mod meaning;
-mod numeral;
 mod parts;
 mod reading;
 mod request;

@@ -7,10 +7,10 @@ ghost use Rattle.pay_nats.specs.Reading.{headed_words, headers_of, if_subject, i
 ghost use Rattle.pay_nats.specs.SeenParts.{seen_meaning, seen_words};
 
 use crate::frame::Frame;
-use crate::numeral::number_of;
 use crate::parts::parted;
 use crate::sizes::Sizes;
 use crate::subject::{if_text, is_subject};
+use pay_numeral::number_of;
 
 /// What a line says.
 #[derive(Clone, Copy)]

@@ -10,7 +10,7 @@ use Rattle.std.proofs.lemmas.Bool.{ltb-true, lt-ltb}
 use Rattle.std.proofs.lemmas.Fmt.{decimal_is_IsNumeral, parse-decimal, IsAscii-decimal}
 use Rattle.std.proofs.lemmas.Option.{cond_some}
 use Rattle.std.proofs.lemmas.Slice.Eq.{bytes_eq-Decides}
-use Rattle.pay_nats.specs.Numerals.{if_numeral, number_of}
+use Rattle.pay_numeral.specs.Numerals.{if_numeral, number_of}
 
 -- the numeral of a number is read as that number
 pub number_again : (n : ℕ) → n < 2 ^ 64 → number_of (decimal n) ≡ Some n

@@ -1,9 +1,9 @@
 use Rattle.std.proofs.Common.{◌≡◌, Some, None, sym, ap, ◌∙◌}
 use Rattle.std.specs.Option.{option_and_then}
 use Rattle.std.specs.Result.{result_ok}
-use Rattle.pay_nats.specs.Numerals.{if_numeral}
-use Rattle.pay_nats.proofs.Numbered.{parsed}
-use Rattle.pay_nats.proofs.numeral.number_in.Goals as goal
+use Rattle.pay_numeral.specs.Numerals.{if_numeral}
+use Rattle.pay_numeral.proofs.Numbered.{parsed}
+use Rattle.pay_numeral.proofs.numeral.number_in.Goals as goal
 
 pub returns-in_err-ok : goal.returns-in_err-ok
 returns-in_err-ok c =

@@ -1,14 +1,14 @@
 //! Numbers by their decimal digits, without leading zeros.
 ghost use Rattle.std.specs.Prelude.{◌≡◌, decimal};
 ghost use Rattle.std.specs.Str.{bytes_eq};
-ghost use Rattle.pay_nats.specs.Numerals.{if_numeral, number_of};
+ghost use Rattle.pay_numeral.specs.Numerals.{if_numeral, number_of};
 
 use itoa::Buffer;
 use std::str;
 
 /// The number whose decimal digits a word is, if it has up to 64 bits.
 #[tactic(auto, using(crate::proofs::Numbered::no_text))]
-pub(crate) fn number_of(word: &[u8]) -> Option<u64>
+pub fn number_of(word: &[u8]) -> Option<u64>
     ensures { result ≡ number_of word.now }
 {
     match str::from_utf8(word) {

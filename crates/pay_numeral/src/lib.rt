@@ -1,0 +1,6 @@
+//! Numbers as the texts of other programs have them.
+#![tactic(auto)]
+
+mod numeral;
+
+pub use numeral::number_of;
