@@ -1,0 +1,3 @@
+mod Asked
+mod Closing
+mod FirstSpace

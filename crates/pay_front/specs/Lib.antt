@@ -1,0 +1,4 @@
+pub mod Partition
+pub mod Routes
+pub mod Closes
+pub mod Answers
