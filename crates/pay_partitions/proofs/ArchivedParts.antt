@@ -14,7 +14,8 @@ use Rattle.pay_postings.specs.Archive.{archived_beside, archived_each, archived_
 use Rattle.pay_postings.specs.Faults.{◌>>=◌}
 use Rattle.pay_postings.specs.Ledger.{LedgerParts}
 use Rattle.pay_postings.specs.Postings.{post_each}
-use Rattle.pay_partitions.specs.Laws.{IsOfAccount, LedgersArePosted, fixes_in, ledger_in, postings_in, quotes_in, sets_in, taps_in}
+use Rattle.pay_partitions.specs.Laws.{LedgersArePosted}
+use Rattle.pay_partitions.specs.Parts.{IsOfAccount, fixes_in, ledger_in, postings_in, quotes_in, sets_in, taps_in}
 use Rattle.pay_partitions.proofs.PostedParts.{apart, parts_posted}
 
 -- ---- one thing more in an archive

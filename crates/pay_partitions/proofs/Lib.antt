@@ -1,3 +1,7 @@
 mod ArchivedParts
+mod InOrder
+mod OwnSets
+mod PartAccounts
+mod PartRuns
 mod Parted
 mod PostedParts

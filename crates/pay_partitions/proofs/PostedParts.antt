@@ -10,7 +10,8 @@ use Rattle.pay_rules.specs.declared.post_fault.PostFault.TheVariants.{StaleQuote
 use Rattle.pay_postings.specs.Amounts.{added, less, no_amounts}
 use Rattle.pay_postings.specs.Faults.{◌>>=◌}
 use Rattle.pay_postings.specs.Postings.{is_of, with_amount, net, with_shares, shares_posted, later_of, last_of, posting_of, is_stale, is_again, is_kept, posted_anew, posted_again, posted_after, post, post_each}
-use Rattle.pay_partitions.specs.Laws.{PostingsArePosted, postings_in, quotes_in}
+use Rattle.pay_partitions.specs.Laws.{PostingsArePosted}
+use Rattle.pay_partitions.specs.Parts.{postings_in, quotes_in}
 
 -- ---- what passes over the postings of others
 

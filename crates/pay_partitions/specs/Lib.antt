@@ -1,2 +1,4 @@
+pub mod Histories
 pub mod Laws
 pub mod Partitions
+pub mod Parts

@@ -1,18 +1,19 @@
 -- Which lines stand in the log of a partition.
-use Rattle.std.specs.Prelude.{◌≡◌, ℕ, ◌%◌, ◌==◌, zero, suc, Bool, true, false, List, [], ◌∷◌, ◌++◌, filter, Option, Some, None, refl}
+use Rattle.std.specs.Prelude.{◌≡◌, ℕ, ◌==◌, zero, suc, Bool, true, false, List, [], ◌∷◌, ◌++◌, filter, Option, Some, None, refl}
 use Rattle.std.specs.List.{AllByRecursion}
 use Rattle.pay_wire.specs.declared.command.SpelledCommand.TheVariants as command
 use Rattle.pay_session.specs.declared.request.Request.{Request}
 use Rattle.pay_session.specs.declared.request.Request.TheVariants as request
 use Rattle.pay_run.specs.Words.{account_named}
+pub use Rattle.pay_front.specs.Partition.{partition_of}
 
--- an account's lines stand in the partition of what its number leaves, divided by the number of partitions
-abbrev pub partition_of : ℕ → ℕ → ℕ
-partition_of of account = account % of
+-- whether an account's lines stand in this partition
+abbrev pub has_account : ℕ → ℕ → ℕ → Bool
+has_account of partition account = partition_of of account == partition
 
--- whether this partition has the lines of the account that is named
+-- the same of the account that is named
 abbrev pub has_named : ℕ → ℕ → Option ℕ → Bool
-has_named of partition (Some account) = partition_of of account == partition
+has_named of partition (Some account) = has_account of partition account
 has_named of partition None = false
 
 -- Whether a request stands in the log of a partition: what is about an account in its own, and a close in each. What is no command, and a

@@ -1,7 +1,4 @@
-//! The partitions of a replicated log: which accounts' lines each has, and that they come to one machine over all accounts.
+//! The partitions of a replicated log come to one machine over all accounts.
 #![tactic(auto)]
 
 pub mod laws;
-mod partition;
-
-pub use partition::partition_of;
