@@ -1,5 +1,5 @@
 -- Partitions that are asked, one after another.
-use Rattle.std.proofs.Common.{◌≡◌, ℕ, suc, ◌+◌, List, [], ◌∷◌, ◌++◌, length, refl, sym, subst, arith, Option}
+use Rattle.std.proofs.Common.{◌≡◌, ℕ, suc, ◌+◌, List, [], ◌∷◌, ◌++◌, length, refl, subst, arith, Option}
 use Rattle.pay_front.specs.Answers.{AreAsked, IsAsked}
 
 -- and one more

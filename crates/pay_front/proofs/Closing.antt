@@ -1,6 +1,6 @@
 -- What the lines of a reply make of it, one after another.
-use Rattle.std.proofs.Common.{◌≡◌, ℕ, Bool, true, false, ◌&&◌, cond, List, [], ◌∷◌, ◌++◌, map, append-nil, append_assoc, refl, sym, ap, ◌∙◌, subst, Option, Some, None}
-use Rattle.std.specs.Prelude.{◌≢◌, option_map, flat_map, IfSome}
+use Rattle.std.proofs.Common.{◌≡◌, ℕ, Bool, true, false, cond, List, [], ◌∷◌, ◌++◌, map, append-nil, append_assoc, refl, sym, ap, ◌∙◌, subst, Option, Some, None}
+use Rattle.std.specs.Prelude.{◌≢◌, option_map, flat_map}
 use Rattle.pay_session.specs.Requests.{InputLine, has_newline, input_lines, rest_of}
 use Rattle.pay_session.proofs.InputLines.{whole_again}
 use Rattle.pay_session.proofs.InputPieces.{lines_of_line, lines_of_part, rest_of_line}

@@ -1,16 +1,13 @@
 -- The reply to a line of a client.
-use Rattle.std.specs.Prelude.{◌≡◌, ℕ, ◌+◌, ◌^◌, nat_lt, suc, if◌then◌else◌, Bool, true, false, List, [], ◌∷◌, ◌++◌, length, codes, Option, Some, None, IfSome, ⊤}
+use Rattle.std.specs.Prelude.{◌≡◌, ℕ, ◌+◌, ◌^◌, nat_lt, suc, if◌then◌else◌, Bool, true, false, List, [], ◌∷◌, length, codes, Option, Some, None}
 use Rattle.pay_wire.specs.Words.{spelling_of_reply}
 use Rattle.pay_wire.specs.declared.refusal.Refusal.TheVariants.{Late}
 use Rattle.pay_wire.specs.declared.reply.SpelledReply.TheVariants.{No}
-use Rattle.pay_session.specs.Requests.{has_newline, is_quit, kept_of, request_of, request_of_rest}
 use Rattle.pay_session.specs.declared.port.Port.{Port}
 use Rattle.pay_session.specs.declared.request.Request.{Request}
 use Rattle.pay_front.specs.Closes.{IsPutTogether}
 use Rattle.pay_front.specs.Routes.{route_of}
 use Rattle.pay_front.specs.declared.answering.Front.{Front}
-use Rattle.pay_front.specs.declared.client_line.Came.{Came}
-use Rattle.pay_front.specs.declared.client_line.Came.TheVariants.{Line, Rest, End, Fault}
 use Rattle.pay_front.specs.declared.route.Route.{Route}
 use Rattle.pay_front.specs.declared.route.Route.TheVariants.{Quits, Refused, To, ToAll}
 
@@ -53,16 +50,3 @@ module _ {P : Type 0} (MayGive : P → ℕ → List ℕ → Option (List ℕ) �
   -- What comes of a request at a front, at some instant.
   abbrev pub IsAnswered : Front → Request → List ℕ → P → List ℕ → P → Type 0
   IsAnswered front request line before reply after = (now : Option ℕ) × IsRouted front.of (route_of (port_of front now) front.of now request) line before reply after
-
--- ---- what a client sends
-
--- A line is what stands before the first newline, and what no newline ends is all that is left; as much of it as is kept.
-abbrev pub ReadsAll : List ℕ → Option (List ℕ) → List ℕ → Came → Type 0
-ReadsAll input after line Line = (text : List ℕ) × (rest : List ℕ) × (input ≡ text ++ 10 ∷ rest) × (has_newline text ≡ false) × (after ≡ Some rest) × (line ≡ kept_of text)
-ReadsAll input after line Rest = (has_newline input ≡ false) × (line ≡ kept_of input) × (after ≡ Some [])
-ReadsAll input after line End = (input ≡ []) × (after ≡ Some [])
-ReadsAll input after line Fault = ⊤
-
--- so it is, if the bytes of the input are known
-abbrev pub ReadsAs : Option (List ℕ) → Option (List ℕ) → List ℕ → Came → Type 0
-ReadsAs before after line came = IfSome before (λ input. ReadsAll input after line came)

@@ -2,7 +2,6 @@
 use Rattle.std.specs.Prelude.{◌≡◌, ℕ, Bool, false, ◌&&◌, nat_lt, ◌==◌, Option, Some, None, if◌then◌else◌, refl}
 use Rattle.jiff.specs.declared.tz.timezone.TimeZone.{TimeZone}
 use Rattle.pay_day.specs.Words.{is_instant, stamp_of}
-use Rattle.pay_wire.specs.declared.command.SpelledCommand.TheVariants as command
 use Rattle.pay_wire.specs.declared.refusal.Refusal.TheVariants as refusal
 use Rattle.pay_session.specs.Asks.{asks_of}
 use Rattle.pay_session.specs.Ports.{asks_at}

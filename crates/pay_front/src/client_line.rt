@@ -1,8 +1,6 @@
 //! The lines of a client, one after another.
-ghost use Rattle.std.specs.Prelude.{◌≡◌, ◌≤◌, ◌+◌, [], ◌++◌, length};
-ghost use Rattle.pay_session.specs.Requests.{kept_of, request_of};
-ghost use Rattle.pay_wire.specs.declared.limits.TheConstants.{MOST_LINE_BYTES};
-ghost use Rattle.pay_front.specs.Answers.{ReadsAs};
+ghost use Rattle.std.specs.Prelude.{◌≡◌, ◌++◌};
+ghost use Rattle.pay_session.specs.Requests.{kept_of};
 
 use crate::limits::MOST_FILLS;
 use arrayvec::ArrayVec;

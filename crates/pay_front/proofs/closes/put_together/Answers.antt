@@ -1,9 +1,9 @@
-use Rattle.std.proofs.Common.{◌≡◌, ◌++◌, [], List, ℕ, map, refl, sym, ap, ◌∙◌, subst, rules, Option, Some, None, IfSome}
-use Rattle.std.specs.Prelude.{vec_items, option_copied, IfNone, IsPermutation, IsSortedByKey}
+use Rattle.std.proofs.Common.{◌≡◌, List, ℕ, map, sym, subst, rules, Option, None, IfSome}
+use Rattle.std.specs.Prelude.{vec_items, IsPermutation, IsSortedByKey}
 use Rattle.std.specs.Ordering.{nat_cmp}
 use Rattle.std.proofs.lemmas.List.Sorted.{IsPermutation-map, answers_always}
 use Rattle.std.proofs.lemmas.Result.{on_ok_weaker}
-use Rattle.pay_front.specs.Closes.{PostedLine, all_postings, close_text, first_other, posted_line}
+use Rattle.pay_front.specs.Closes.{all_postings, first_other, posted_line}
 use Rattle.pay_front.specs.declared.closes.Posted.{Posted}
 use Rattle.pay_front.proofs.closes.put_together.Goals as goal
 
